@@ -1,0 +1,5 @@
+pub mod Lines
+pub mod Memory
+pub mod Outside
+pub mod Reading
+pub mod Status

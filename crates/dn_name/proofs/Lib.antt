@@ -1,0 +1,10 @@
+pub mod Labels
+pub mod Lowered
+pub mod Ordered
+pub mod Plain
+pub mod Pushed
+pub mod Reading
+pub mod Steps
+pub mod Walk
+pub mod Writing
+pub mod ReadBack

@@ -1,0 +1,71 @@
+//! Names compared: their letters in either case are the same (RFC 4343).
+
+ghost use Rattle.std.specs.Prelude.{◌≡◌, ◌↔◌, ℕ, IsTrue, List, length};
+ghost use Rattle.std.specs.List.{AllByRecursion};
+ghost use Rattle.std.specs.Ordering.{ordering_then};
+ghost use Rattle.dn_name.specs.Name.{IsLabel, IsUnder, is_same, is_under, lowered, order, wire_of};
+ghost use Rattle.dn_name.specs.Walk.{ends_in, order_of};
+
+use crate::name::Name;
+use crate::wire::{skip_labels, split_label};
+use std::cmp::Ordering;
+
+impl Name {
+    /// Whether the names are equal but for the case of letters.
+    pub fn same(&self, other: &Name) -> bool
+        ensures test { result ≡ is_same self.now other.now }
+        ensures meaning { IsTrue result ↔ (lowered self.now ≡ lowered other.now) }
+    {
+        let (left, right) = (self.lower(), other.lower());
+        left.wire() == right.wire()
+    }
+
+    /// Whether the name is the apex or stands below it.
+    pub fn is_under(&self, apex: &Name) -> bool
+        ensures test { result ≡ is_under self.now apex.now }
+        ensures meaning { IsTrue result ↔ IsUnder self.now apex.now }
+    {
+        let (name, apex) = (self.lower(), apex.lower());
+        ends_with(name.wire(), apex.wire())
+    }
+
+    /// The order of names by their labels from the last to the first, in lower case (RFC 4034 6.1).
+    pub fn compare(&self, other: &Name) -> Ordering
+        ensures { result ≡ order self.now other.now }
+    {
+        let (left, right) = (self.lower(), other.lower());
+        let (left_count, right_count) = (left.labels(), right.labels());
+        let shared = left_count.min(right_count);
+        compare_labels(
+            skip_labels(left.wire(), left_count - shared),
+            skip_labels(right.wire(), right_count - shared),
+            left_count.cmp(&right_count),
+        )
+    }
+}
+
+/// Whether the labels of the apex stand at the end of the name's, both on the wire.
+fn ends_with(wire: &[u8], apex: &[u8]) -> bool
+    ensures { (name above : List (List ℕ)) → AllByRecursion IsLabel name → AllByRecursion IsLabel above → wire.now ≡ wire_of name → apex.now ≡ wire_of above → result ≡ ends_in name above }
+{
+    if wire == apex {
+        return true;
+    }
+    match split_label(wire) {
+        Some((_, rest)) => ends_with(rest, apex),
+        None => false,
+    }
+}
+
+/// The order of names of as many labels, on the wire, by their labels from the last to the first; where these are
+/// equal, the one that is given.
+fn compare_labels(left: &[u8], right: &[u8], otherwise: Ordering) -> Ordering
+    ensures { (name other : List (List ℕ)) → AllByRecursion IsLabel name → AllByRecursion IsLabel other → length name ≡ length other → left.now ≡ wire_of name → right.now ≡ wire_of other → result ≡ ordering_then (order_of name other) otherwise }
+{
+    match (split_label(left), split_label(right)) {
+        (Some((label, left)), Some((other, right))) => {
+            compare_labels(left, right, label.cmp(other).then(otherwise))
+        }
+        _ => otherwise,
+    }
+}

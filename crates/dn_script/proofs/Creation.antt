@@ -1,0 +1,14 @@
+-- What a new zone holds fits.
+use Rattle.std.proofs.Common.{◌≡◌, ℕ, List, refl, sym, subst}
+use Rattle.std.specs.Prelude.{IsTrue}
+use Rattle.dn_store.specs.declared.record.Property.{Property}
+use Rattle.dn_store.specs.declared.unit.UnitValue.TheVariants.{Props}
+use Rattle.dn_store.specs.Value.{fits}
+use Rattle.dn_script.specs.Zone.{first_properties, property}
+
+first_fit : IsTrue (fits (Props first_properties))
+unfolding first_properties property
+first_fit = refl
+
+pub properties_fit : (list : List Property) → list ≡ first_properties → IsTrue (fits (Props list))
+properties_fit list is = subst (λ (items : List Property). IsTrue (fits (Props items))) (sym is) first_fit

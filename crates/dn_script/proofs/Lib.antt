@@ -1,0 +1,10 @@
+pub mod Changes
+pub mod Creation
+pub mod NodeAdded
+pub mod NodeOrder
+pub mod NodePlaced
+pub mod NodeSets
+pub mod Numbers
+pub mod Runs
+pub mod WordsParts
+pub mod Worlds

@@ -1,0 +1,13 @@
+pub mod Acted
+pub mod Added
+pub mod Line
+pub mod Node
+pub mod NodePlaces
+pub mod Numbers
+pub mod Play
+pub mod Print
+pub mod Run
+pub mod Stepped
+pub mod Words
+pub mod World
+pub mod Zone

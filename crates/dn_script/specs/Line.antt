@@ -1,0 +1,85 @@
+-- Which line of a script is which command, whatever replicas and zones there are.
+use Rattle.std.specs.Prelude.{◌≡◌, ℕ, ◌-◌, ◌^◌, Bool, true, false, ◌||◌, nat_le, if◌then◌else◌, List, [], ◌∷◌, codes, Option, None, Some}
+use Rattle.dn_name.specs.Text.{name_of_text}
+use Rattle.dn_script.specs.declared.event.AdminCmd.{AdminCmd}
+use Rattle.dn_script.specs.declared.event.AdminCmd.TheVariants.{Add}
+use Rattle.dn_script.specs.declared.line.ScriptLine.{ScriptLine}
+use Rattle.dn_script.specs.declared.line.ScriptLine.TheVariants as lines
+use Rattle.dn_script.specs.Words.{◌>>=◌, address_of, id_of, is_replica_name, is_word, number_within}
+
+-- the name that a word is
+unfoldable pub name_word : List ℕ → Option (List (List ℕ))
+name_word word = name_of_text word
+
+-- a moment: ticks of 100 ns since 1601-01-01, at least an hour
+unfoldable pub moment_of : List ℕ → Option ℕ
+moment_of word = do
+  ticks ← number_within (2 ^ 64 - 1) word
+  if nat_le 36000000000 ticks then Some ticks else None
+
+-- the type A, by its name or its number
+unfoldable pub is_type_a : List ℕ → Bool
+is_type_a word = is_word word (codes "A") || is_word word (codes "TYPE1")
+
+-- `replica R ID HOST`
+unfoldable pub replica_line : List (List ℕ) → Option ScriptLine
+replica_line (name ∷ id ∷ host ∷ []) = do
+  its_name ← if is_replica_name name then Some name else None
+  its_id ← id_of id
+  its_host ← name_word host
+  Some (lines.Replica its_name its_id its_host)
+replica_line words = None
+
+-- `create R Z MAILBOX`, behind `zone`
+unfoldable pub create_line : List (List ℕ) → Option ScriptLine
+create_line (replica ∷ apex ∷ mailbox ∷ []) = do
+  its_apex ← name_word apex
+  its_mailbox ← name_word mailbox
+  Some (lines.Create replica its_apex its_mailbox)
+create_line words = None
+
+unfoldable pub zone_line : List (List ℕ) → Option ScriptLine
+zone_line [] = None
+zone_line (verb ∷ words) = if is_word verb (codes "create") then create_line words else None
+
+-- `at TICKS`
+unfoldable pub at_line : List (List ℕ) → Option ScriptLine
+at_line (ticks ∷ []) = do
+  moment ← moment_of ticks
+  Some (lines.At moment)
+at_line words = None
+
+-- the command that adds an address at a name; such a record doesn't age
+unfoldable pub address_command : List ℕ → List ℕ → List ℕ → Option AdminCmd
+address_command name ttl address = do
+  its_name ← name_word name
+  its_ttl ← number_within 4294967295 ttl
+  rdata ← address_of address
+  Some (Add its_name its_ttl 1 rdata 0)
+
+-- `add NAME TTL TYPE DATA`
+unfoldable pub add_of : List (List ℕ) → Option AdminCmd
+add_of (name ∷ ttl ∷ rtype ∷ address ∷ []) = if is_type_a rtype then address_command name ttl address else None
+add_of words = None
+
+-- a command of administration
+unfoldable pub command_of : List (List ℕ) → Option AdminCmd
+command_of [] = None
+command_of (verb ∷ words) = if is_word verb (codes "add") then add_of words else None
+
+-- `admin R Z COMMAND`
+unfoldable pub admin_line : List (List ℕ) → Option ScriptLine
+admin_line (replica ∷ apex ∷ command) = do
+  its_apex ← name_word apex
+  cmd ← command_of command
+  Some (lines.Admin replica its_apex cmd)
+admin_line words = None
+
+-- a line of a script, by its words
+unfoldable pub line_of : List (List ℕ) → Option ScriptLine
+line_of [] = None
+line_of (verb ∷ words) =
+    if is_word verb (codes "replica") then replica_line words
+    else (if is_word verb (codes "zone") then zone_line words
+    else (if is_word verb (codes "at") then at_line words
+    else (if is_word verb (codes "admin") then admin_line words else None)))

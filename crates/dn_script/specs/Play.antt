@@ -1,0 +1,115 @@
+-- What a script prints, and how it ends.
+use Rattle.std.specs.Prelude.{◌≡◌, ℕ, ◌+◌, Bool, not, if◌then◌else◌, nat_eq, List, [], ◌∷◌, ◌++◌, length, position, Option, None, Some}
+use Rattle.std.specs.List.{list_any}
+use Rattle.std.specs.Io.KnownBytes.{Appends}
+use lib.Pointwise.{pointwise}
+use Rattle.dn_io.specs.Lines.{RawLine, is_overlong, lines_of, size_of, text_of}
+use Rattle.dn_io.specs.Outside.{AppendsFront}
+use Rattle.dn_io.specs.declared.status.Status.{Status}
+use Rattle.dn_io.specs.declared.status.Status.TheVariants.{Done, BadLine, Usage, ReadFault, WriteFault, OutOfMemory, TooLong, LinkFault}
+use Rattle.dn_script.specs.declared.event.AdminCmd.{AdminCmd}
+use Rattle.dn_script.specs.declared.event.Event.TheVariants as events
+use Rattle.dn_script.specs.declared.line.ScriptLine.{ScriptLine}
+use Rattle.dn_script.specs.declared.line.ScriptLine.TheVariants as lines
+use Rattle.dn_script.specs.declared.script.Script.{Script}
+use Rattle.dn_script.specs.declared.world.World.{World}
+use Rattle.dn_script.specs.declared.world.WorldAnswer.{WorldAnswer}
+use Rattle.dn_script.specs.declared.world.WorldAnswer.TheVariants as world
+use Rattle.dn_script.specs.declared.world.WorldEvent.{WorldEvent}
+use Rattle.dn_script.specs.declared.world.WorldEvent.TheVariants.{Act, Create, Replica}
+use Rattle.dn_script.specs.Line.{line_of}
+use Rattle.dn_script.specs.Print.{answer_text, as_line}
+use Rattle.dn_script.specs.Words.{◌>>=◌, does_nothing, words_of}
+use Rattle.dn_script.specs.World.{wstep}
+
+-- the script before its first line: no replica, and hour 1
+unfoldable pub opening : Script
+opening = record { names = []; world = record { replicas = []; zones = [] }; moment = 36000000000 }
+
+abbrev pub is_named : List ℕ → List ℕ → Bool
+is_named name other = pointwise nat_eq other name
+
+-- the number of the replica of a name
+unfoldable pub number_of : Script → List ℕ → Option ℕ
+number_of script name = position (is_named name) script.names
+
+-- a line's output, where the line is valid, and the script behind it
+abbrev pub Step : Type 0
+Step = Option (Script × List ℕ)
+
+-- a refused event makes its line invalid
+abbrev pub after_event : Script → World × WorldAnswer → Step
+after_event script (now, world.Made) = Some (record script { world = now }, [])
+after_event script (now, world.Zone answer) = Some (record script { world = now }, as_line (answer_text answer))
+after_event script (now, world.No why) = None
+
+unfoldable pub run_event : Script → WorldEvent → Step
+run_event script event = after_event script (wstep script.world event)
+
+abbrev pub with_name : List ℕ → Script × List ℕ → Script × List ℕ
+with_name name (script, output) = (record script { names = script.names ++ name ∷ [] }, output)
+
+abbrev pub is_new_name : Script → List ℕ → Bool
+is_new_name script name = not (list_any (is_named name) script.names)
+
+-- a line in the script so far
+unfoldable pub run_line : Script → ScriptLine → Step
+run_line script (lines.Replica name id host) = do
+  after ← if is_new_name script name then run_event script (Replica id host) else None
+  Some (with_name name after)
+run_line script (lines.Create replica apex mailbox) = do
+  at ← number_of script replica
+  run_event script (Create at apex mailbox script.moment)
+run_line script (lines.At moment) = Some (record script { moment = moment }, [])
+run_line script (lines.Admin replica apex cmd) = do
+  at ← number_of script replica
+  run_event script (Act at apex (events.Admin cmd script.moment))
+
+-- The step of a script by the text of a line: none where the line isn't valid.
+unfoldable pub step_text : Script → List ℕ → Step
+step_text script text =
+    if does_nothing text then Some (script, []) else line_of (words_of text) >>= run_line script
+
+-- how a script ends: each line was valid, or this line is the first that isn't, or a line is over-long
+pub data Ending : Type 0 where
+  AtEnd : Ending
+  Bad : ℕ → Ending
+  Long : Ending
+
+-- what a script prints, and how it ends
+pub record Played : Type 0 where
+  pub text : List ℕ
+  pub ending : Ending
+
+abbrev pub ends : Ending → Played
+ends ending = record { text = []; ending = ending }
+
+abbrev pub printing : List ℕ → Played → Played
+printing output rest = record { text = output ++ rest.text; ending = rest.ending }
+
+abbrev pub after_step : ℕ → Step → (Script → Played) → Played
+after_step number None go_on = ends (Bad number)
+after_step number (Some (script, output)) go_on = printing output (go_on script)
+
+-- The play of lines, of which the first has this number and so many bytes of the input before it.
+unfoldable pub play_lines : ℕ → ℕ → List RawLine → Script → Played
+play_lines number before [] script = ends AtEnd
+play_lines number before (line ∷ rest) script =
+    if is_overlong before line then ends Long
+    else after_step number (step_text script (text_of line)) (play_lines (number + 1) (before + size_of line) rest)
+
+-- the play of a whole script
+unfoldable pub play : List ℕ → Played
+play bytes = play_lines 1 0 (lines_of bytes) opening
+
+-- A run with this status wrote what the play says. Here `left` is what is left of the input, and `before` and `now` are
+-- what was written, where the sink tells it.
+abbrev pub Ended : Played → Status → List ℕ → Option (List ℕ) → Option (List ℕ) → Type 0
+Ended played Done left before now = (played.ending ≡ AtEnd) × (left ≡ []) × Appends before now played.text
+Ended played (BadLine number) left before now = (played.ending ≡ Bad number) × Appends before now played.text
+Ended played TooLong left before now = (played.ending ≡ Long) × Appends before now played.text
+Ended played ReadFault left before now = AppendsFront before now played.text
+Ended played WriteFault left before now = AppendsFront before now played.text
+Ended played OutOfMemory left before now = AppendsFront before now played.text
+Ended played Usage left before now = ⊥
+Ended played LinkFault left before now = ⊥

@@ -1,0 +1,86 @@
+-- Replicas, their zones, and what an event makes of them.
+use Rattle.std.specs.Prelude.{◌≡◌, ℕ, ◌+◌, Bool, true, false, not, ◌&&◌, ◌||◌, nat_eq, nat_lt, nat_le, if◌then◌else◌, List, [], ◌∷◌, ◌++◌, length, count_by, position, slice_get, slice_set, Option, None, Some}
+use Rattle.std.specs.List.{list_any}
+use lib.Pointwise.{pointwise}
+use Rattle.dn_name.specs.Name.{is_same}
+use Rattle.dn_store.specs.declared.stamp.ReplicaId.{ReplicaId}
+use Rattle.dn_script.specs.declared.event.Answer.{Answer}
+use Rattle.dn_script.specs.declared.event.Event.{Event}
+use Rattle.dn_script.specs.declared.world.Replica.{Replica}
+use Rattle.dn_script.specs.declared.world.World.{World}
+use Rattle.dn_script.specs.declared.world.WorldAnswer.{WorldAnswer}
+use Rattle.dn_script.specs.declared.world.WorldAnswer.TheVariants.{Made, No}
+use Rattle.dn_script.specs.declared.world.WorldAnswer.TheVariants as answers
+use Rattle.dn_script.specs.declared.world.WorldEvent.{WorldEvent}
+use Rattle.dn_script.specs.declared.world.WorldEvent.TheVariants as events
+use Rattle.dn_script.specs.declared.world.WorldNo.{WorldNo}
+use Rattle.dn_script.specs.declared.world.WorldNo.TheVariants.{IdTaken, NoReplica, NoZone, ZoneThere, Full}
+use Rattle.dn_script.specs.declared.zone.Zone.{Zone}
+use Rattle.dn_script.specs.Zone.{created, zstep}
+
+abbrev pub is_id : ReplicaId → ReplicaId → Bool
+is_id left right = pointwise nat_eq left.0 right.0
+
+abbrev pub has_id : ReplicaId → Replica → Bool
+has_id id replica = is_id replica.id id
+
+abbrev pub is_of : ReplicaId → Zone → Bool
+is_of id zone = is_id zone.id id
+
+-- the zone of this replica with this apex
+abbrev pub is_zone : ReplicaId → List (List ℕ) → Zone → Bool
+is_zone id apex zone = is_of id zone && is_same zone.apex apex
+
+abbrev pub with_replica : World → Replica → World
+with_replica world replica = record world { replicas = world.replicas ++ replica ∷ [] }
+
+abbrev pub with_zone : World → Zone → World
+with_zone world zone = record world { zones = world.zones ++ zone ∷ [] }
+
+abbrev pub set_zone : World → ℕ → Zone → World
+set_zone world at zone = record world { zones = slice_set world.zones at zone }
+
+-- a new replica
+unfoldable pub wstep_replica : World → ReplicaId → List (List ℕ) → World × WorldAnswer
+wstep_replica world id host =
+    if list_any (has_id id) world.replicas then (world, No IdTaken)
+    else (if nat_le 64 (length world.replicas) then (world, No Full)
+    else (with_replica world (record { id = id; host = host }), Made))
+
+-- why a replica can't have a new zone with this apex
+abbrev pub no_room : World → ReplicaId → List (List ℕ) → Option WorldNo
+no_room world id apex =
+    if list_any (is_zone id apex) world.zones then Some ZoneThere
+    else (if nat_le 16 (count_by (is_of id) world.zones) then Some Full else None)
+
+abbrev pub zone_unless : Option WorldNo → World → Zone → World × WorldAnswer
+zone_unless (Some why) world zone = (world, No why)
+zone_unless None world zone = (with_zone world zone, Made)
+
+-- a new zone of a replica, made as `make` says
+unfoldable pub wstep_zone : World → Option Replica → List (List ℕ) → (Replica → Zone) → World × WorldAnswer
+wstep_zone world None apex make = (world, No NoReplica)
+wstep_zone world (Some replica) apex make = zone_unless (no_room world replica.id apex) world (make replica)
+
+abbrev pub acted_at : World → ℕ → Zone × Answer → World × WorldAnswer
+acted_at world at after = (set_zone world at after.0, answers.Zone after.1)
+
+abbrev pub act_in : World → Event → ℕ → Option Zone → World × WorldAnswer
+act_in world event at None = (world, No NoZone)
+act_in world event at (Some zone) = acted_at world at (zstep zone event)
+
+abbrev pub act_at : World → Event → Option ℕ → World × WorldAnswer
+act_at world event None = (world, No NoZone)
+act_at world event (Some at) = act_in world event at (slice_get world.zones at)
+
+unfoldable pub wstep_act : World → Option Replica → List (List ℕ) → Event → World × WorldAnswer
+wstep_act world None apex event = (world, No NoReplica)
+wstep_act world (Some replica) apex event = act_at world event (position (is_zone replica.id apex) world.zones)
+
+-- The step of the world: the world and the answer after an event. Replicas are numbered from 0. A refused event changes
+-- nothing.
+unfoldable pub wstep : World → WorldEvent → World × WorldAnswer
+wstep world (events.Replica id host) = wstep_replica world id host
+wstep world (events.Create at apex mailbox moment) =
+    wstep_zone world (slice_get world.replicas at) apex (λ replica. created replica.id replica.host apex mailbox moment)
+wstep world (events.Act at apex event) = wstep_act world (slice_get world.replicas at) apex event

@@ -1,0 +1,232 @@
+ghost use Rattle.std.specs.Prelude.{◌≡◌, map};
+ghost use Rattle.dn_script.specs.Line.{
+  add_of,
+  address_command,
+  admin_line,
+  at_line,
+  command_of,
+  create_line,
+  is_type_a,
+  line_of,
+  moment_of,
+  name_word,
+  replica_line,
+  zone_line,
+};
+ghost use Rattle.dn_script.specs.Words.{Reads, number_within};
+
+use crate::bad::Bad;
+use crate::event::AdminCmd;
+use crate::number::number_within;
+use crate::words::{address_of, copy_of, id_of, is_replica_name, is_word};
+use dn_io::{List, Moment};
+use dn_name::Name;
+use dn_store::ReplicaId;
+use std::alloc::Global;
+
+/// The type of an address (RFC 1035 3.4.1).
+const A: u16 = 1;
+
+/// A line of a script, whatever replicas and zones there are.
+#[derive(Drop)]
+pub enum ScriptLine {
+    /// `replica R ID HOST`
+    Replica {
+        name: List<u8>,
+        id: ReplicaId,
+        host: Name,
+    },
+    /// `zone create R Z MAILBOX`
+    Create {
+        replica: List<u8>,
+        apex: Name,
+        mailbox: Name,
+    },
+    /// `at TICKS`
+    At {
+        moment: Moment,
+    },
+    /// `admin R Z COMMAND`
+    Admin {
+        replica: List<u8>,
+        apex: Name,
+        cmd: AdminCmd,
+    },
+}
+
+#[tactic(auto, unfolding(crate::specs::Line::name_word))]
+fn name_of(word: &[u8]) -> Result<Name, Bad>
+    ensures { Reads result (name_word word.now) }
+{
+    match Name::from_text(word) {
+        Ok(name) => Ok(name),
+        Err(_) => Err(Bad::Line),
+    }
+}
+
+#[tactic(auto, unfolding(crate::specs::Line::moment_of))]
+fn moment_of(word: &[u8]) -> Result<Moment, Bad>
+    ensures { Reads result (moment_of word.now) }
+{
+    let Some(ticks) = number_within(u64::MAX, word) else {
+        return Err(Bad::Line);
+    };
+    match Moment::of(ticks) {
+        Some(moment) => Ok(moment),
+        None => Err(Bad::Line),
+    }
+}
+
+#[tactic(auto, unfolding(crate::specs::Line::replica_line))]
+fn replica_line(alloc: Global, words: &[&[u8]]) -> Result<ScriptLine, Bad>
+    ensures { Reads result (replica_line (map (λ word. word.now) words.now)) }
+{
+    let [name, id, host] = words else {
+        return Err(Bad::Line);
+    };
+    if !is_replica_name(name) {
+        return Err(Bad::Line);
+    }
+    let Some(id) = id_of(id) else {
+        return Err(Bad::Line);
+    };
+    let host = name_of(host)?;
+    Ok(ScriptLine::Replica {
+        name: copy_of(alloc, name)?,
+        id,
+        host,
+    })
+}
+
+#[tactic(auto, unfolding(crate::specs::Line::create_line))]
+fn create_line(alloc: Global, words: &[&[u8]]) -> Result<ScriptLine, Bad>
+    ensures { Reads result (create_line (map (λ word. word.now) words.now)) }
+{
+    let [replica, apex, mailbox] = words else {
+        return Err(Bad::Line);
+    };
+    let apex = name_of(apex)?;
+    let mailbox = name_of(mailbox)?;
+    Ok(ScriptLine::Create {
+        replica: copy_of(alloc, replica)?,
+        apex,
+        mailbox,
+    })
+}
+
+#[tactic(auto, unfolding(crate::specs::Line::zone_line))]
+fn zone_line(alloc: Global, words: &[&[u8]]) -> Result<ScriptLine, Bad>
+    ensures { Reads result (zone_line (map (λ word. word.now) words.now)) }
+{
+    match words {
+        [verb, rest @ ..] if is_word(verb, b"create") => create_line(alloc, rest),
+        _ => Err(Bad::Line),
+    }
+}
+
+#[tactic(auto, unfolding(crate::specs::Line::at_line))]
+fn at_line(words: &[&[u8]]) -> Result<ScriptLine, Bad>
+    ensures { Reads result (at_line (map (λ word. word.now) words.now)) }
+{
+    let [ticks] = words else {
+        return Err(Bad::Line);
+    };
+    let moment = moment_of(ticks)?;
+    Ok(ScriptLine::At { moment })
+}
+
+#[tactic(auto, unfolding(crate::specs::Line::is_type_a))]
+fn is_type_a(word: &[u8]) -> bool
+    ensures { result ≡ is_type_a word.now }
+{
+    is_word(word, b"A") || is_word(word, b"TYPE1")
+}
+
+/// A time to live in seconds.
+fn ttl_of(word: &[u8]) -> Result<u32, Bad>
+    ensures { Reads result (number_within 4294967295 word.now) }
+{
+    match number_within(u64::from(u32::MAX), word) {
+        Some(seconds) => Ok(seconds as u32),
+        None => Err(Bad::Line),
+    }
+}
+
+/// The command that adds an address at a name.
+#[tactic(auto, unfolding(crate::specs::Line::address_command))]
+fn address_command(alloc: Global, name: &[u8], ttl: &[u8], address: &[u8]) -> Result<AdminCmd, Bad>
+    ensures { Reads result (address_command name.now ttl.now address.now) }
+{
+    let name = name_of(name)?;
+    let ttl = ttl_of(ttl)?;
+    let rdata = address_of(alloc, address)?;
+    Ok(AdminCmd::Add {
+        name,
+        ttl,
+        rtype: A,
+        rdata,
+        hour: 0,
+    })
+}
+
+#[tactic(auto, unfolding(crate::specs::Line::add_of))]
+fn add_of(alloc: Global, words: &[&[u8]]) -> Result<AdminCmd, Bad>
+    ensures { Reads result (add_of (map (λ word. word.now) words.now)) }
+{
+    match words {
+        [name, ttl, rtype, address] if is_type_a(rtype) => {
+            address_command(alloc, name, ttl, address)
+        }
+        _ => Err(Bad::Line),
+    }
+}
+
+#[tactic(auto, unfolding(crate::specs::Line::command_of))]
+fn command_of(alloc: Global, words: &[&[u8]]) -> Result<AdminCmd, Bad>
+    ensures { Reads result (command_of (map (λ word. word.now) words.now)) }
+{
+    match words {
+        [verb, rest @ ..] if is_word(verb, b"add") => add_of(alloc, rest),
+        _ => Err(Bad::Line),
+    }
+}
+
+#[tactic(auto, unfolding(crate::specs::Line::admin_line))]
+fn admin_line(alloc: Global, words: &[&[u8]]) -> Result<ScriptLine, Bad>
+    ensures { Reads result (admin_line (map (λ word. word.now) words.now)) }
+{
+    let [replica, apex, command @ ..] = words else {
+        return Err(Bad::Line);
+    };
+    let apex = name_of(apex)?;
+    let cmd = command_of(alloc, command)?;
+    Ok(ScriptLine::Admin {
+        replica: copy_of(alloc, replica)?,
+        apex,
+        cmd,
+    })
+}
+
+/// The line of a script that the words are.
+///
+/// # Errors
+/// `Line` exactly where they are none, `Memory` where memory wasn't to be had.
+#[tactic(auto, unfolding(crate::specs::Line::line_of))]
+pub fn line_of(alloc: Global, words: &[&[u8]]) -> Result<ScriptLine, Bad>
+    ensures { Reads result (line_of (map (λ word. word.now) words.now)) }
+{
+    let [verb, rest @ ..] = words else {
+        return Err(Bad::Line);
+    };
+    if is_word(verb, b"replica") {
+        replica_line(alloc, rest)
+    } else if is_word(verb, b"zone") {
+        zone_line(alloc, rest)
+    } else if is_word(verb, b"at") {
+        at_line(rest)
+    } else if is_word(verb, b"admin") {
+        admin_line(alloc, rest)
+    } else {
+        Err(Bad::Line)
+    }
+}

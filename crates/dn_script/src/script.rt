@@ -1,0 +1,175 @@
+ghost use Rattle.std.specs.Prelude.{◌≡◌};
+ghost use Rattle.std.specs.List.{list_any};
+ghost use Rattle.dn_script.specs.Play.{is_named, number_of, opening, run_event, run_line, step_text};
+ghost use Rattle.dn_script.specs.Stepped.{Steps};
+
+use crate::bad::Bad;
+use crate::event::{AdminCmd, Event};
+use crate::line::{ScriptLine, line_of};
+use crate::print::answer_line;
+use crate::words::{does_nothing, words};
+use crate::world::{World, WorldAnswer, WorldEvent};
+use dn_io::{List, Moment};
+use dn_name::Name;
+use dn_store::ReplicaId;
+use std::alloc::Global;
+
+/// A script so far: the names of its replicas in the order of their numbers, the world, and the moment.
+#[derive(Drop)]
+pub struct Script {
+    pub names: List<List<u8>>,
+    pub world: World,
+    pub moment: Moment,
+}
+
+impl Script {
+    /// The script before its first line. The moment is hour 1 until a line sets it.
+    #[tactic(auto, unfolding(crate::specs::Play::opening))]
+    pub fn opening(alloc: Global, moment: Moment) -> Script
+        requires { moment ≡ 36000000000 }
+        ensures { result ≡ opening }
+    {
+        Script {
+            names: List::new(alloc),
+            world: World {
+                replicas: List::new(alloc),
+                zones: List::new(alloc),
+            },
+            moment,
+        }
+    }
+
+    /// The number of the replica of a name.
+    #[tactic(auto, unfolding(crate::specs::Play::number_of))]
+    fn number_of(&self, name: &[u8]) -> Option<usize>
+        ensures { result ≡ number_of self.now name.now }
+    {
+        self.names
+            .as_slice()
+            .iter()
+            .position(|other| other.as_slice() == name)
+    }
+
+    fn has_name(&self, name: &[u8]) -> bool
+        ensures { result ≡ list_any (is_named name.now) self.now.names }
+    {
+        self.names
+            .as_slice()
+            .iter()
+            .any(|other| other.as_slice() == name)
+    }
+
+    /// One event of the world, with its line of output.
+    #[tactic(auto, unfolding(crate::specs::Play::run_event))]
+    fn run_event(&mut self, alloc: Global, event: &WorldEvent) -> Result<List<u8>, Bad>
+        ensures { Steps result self.new (run_event self.old event.now) }
+    {
+        match self.world.step(alloc, event)? {
+            WorldAnswer::Made => Ok(List::new(alloc)),
+            WorldAnswer::Zone(answer) => Ok(answer_line(alloc, answer)?),
+            WorldAnswer::No(_) => Err(Bad::Line),
+        }
+    }
+
+    #[tactic(auto, unfolding(crate::specs::Play::run_line))]
+    fn replica(
+        &mut self,
+        alloc: Global,
+        name: List<u8>,
+        id: ReplicaId,
+        host: Name,
+    ) -> Result<List<u8>, Bad>
+        ensures { Steps result self.new (run_line self.old (ScriptLine.Replica name id host)) }
+    {
+        if self.has_name(name.as_slice()) {
+            return Err(Bad::Line);
+        }
+        let output = self.run_event(alloc, &WorldEvent::Replica { id, host })?;
+        self.names.push(name)?;
+        Ok(output)
+    }
+
+    #[tactic(auto, unfolding(crate::specs::Play::run_line))]
+    fn create(
+        &mut self,
+        alloc: Global,
+        replica: &[u8],
+        apex: Name,
+        mailbox: Name,
+    ) -> Result<List<u8>, Bad>
+        ensures { Steps result self.new (run_line self.old (ScriptLine.Create replica.now apex mailbox)) }
+    {
+        let Some(at) = self.number_of(replica) else {
+            return Err(Bad::Line);
+        };
+        let event = WorldEvent::Create {
+            at,
+            apex,
+            mailbox,
+            moment: self.moment,
+        };
+        self.run_event(alloc, &event)
+    }
+
+    #[tactic(auto, unfolding(crate::specs::Play::run_line))]
+    fn admin(
+        &mut self,
+        alloc: Global,
+        replica: &[u8],
+        apex: Name,
+        cmd: AdminCmd,
+    ) -> Result<List<u8>, Bad>
+        ensures { Steps result self.new (run_line self.old (ScriptLine.Admin replica.now apex cmd)) }
+    {
+        let Some(at) = self.number_of(replica) else {
+            return Err(Bad::Line);
+        };
+        let event = WorldEvent::Act {
+            at,
+            apex,
+            event: Event::Admin {
+                cmd,
+                moment: self.moment,
+            },
+        };
+        self.run_event(alloc, &event)
+    }
+
+    /// Runs a line, and answers what it prints.
+    #[tactic(auto, unfolding(crate::specs::Play::run_line))]
+    fn run_line(&mut self, alloc: Global, line: ScriptLine) -> Result<List<u8>, Bad>
+        ensures { Steps result self.new (run_line self.old line) }
+    {
+        match line {
+            ScriptLine::Replica { name, id, host } => self.replica(alloc, name, id, host),
+            ScriptLine::Create {
+                replica,
+                apex,
+                mailbox,
+            } => self.create(alloc, replica.as_slice(), apex, mailbox),
+            ScriptLine::At { moment } => {
+                self.moment = moment;
+                Ok(List::new(alloc))
+            }
+            ScriptLine::Admin { replica, apex, cmd } => {
+                self.admin(alloc, replica.as_slice(), apex, cmd)
+            }
+        }
+    }
+
+    /// Runs a line by its text, and answers what it prints.
+    ///
+    /// # Errors
+    /// `Line` exactly where the line isn't valid, `Memory` where memory wasn't to be had.
+    #[tactic(auto, unfolding(crate::specs::Play::step_text))]
+    pub fn step(&mut self, alloc: Global, text: &[u8]) -> Result<List<u8>, Bad>
+        ensures { Steps result self.new (step_text self.old text.now) }
+    {
+        let words = words(alloc, text)?;
+        if does_nothing(text, &words) {
+            return Ok(List::new(alloc));
+        }
+        let line = line_of(alloc, &words)?;
+        self.run_line(alloc, line)
+    }
+}

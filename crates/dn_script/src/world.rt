@@ -1,0 +1,213 @@
+ghost use Rattle.std.specs.Prelude.{◌≡◌, IfOk, OnErr, count_by, position, slice_get};
+ghost use Rattle.std.specs.List.{list_any};
+ghost use Rattle.dn_script.specs.World.{has_id, is_of, is_zone, no_room, wstep, wstep_act, wstep_replica};
+
+use crate::event::{Answer, Event};
+use crate::zone::{Acted, Zone};
+use dn_io::{List, Moment, OutOfMemory};
+use dn_name::Name;
+use dn_store::ReplicaId;
+use std::alloc::Global;
+
+/// A server.
+#[derive(Drop)]
+pub struct Replica {
+    pub id: ReplicaId,
+    pub host: Name,
+}
+
+/// The servers of a script and their zones. A zone belongs to the replica of its identity.
+#[derive(Drop)]
+pub struct World {
+    pub replicas: List<Replica>,
+    pub zones: List<Zone>,
+}
+
+/// What happens in the world. Replicas are numbered from 0.
+#[derive(Drop)]
+pub enum WorldEvent {
+    Replica {
+        id: ReplicaId,
+        host: Name,
+    },
+    Create {
+        at: usize,
+        apex: Name,
+        mailbox: Name,
+        moment: Moment,
+    },
+    Act {
+        at: usize,
+        apex: Name,
+        event: Event,
+    },
+}
+
+/// What the world answers.
+#[derive(Clone, Copy, Debug, PartialEq, Eq)]
+pub enum WorldAnswer {
+    Made,
+    Zone(Answer),
+    No(WorldNo),
+}
+
+/// Why the world refuses an event.
+#[derive(Clone, Copy, Debug, PartialEq, Eq)]
+pub enum WorldNo {
+    /// A replica has the identity.
+    IdTaken,
+    NoReplica,
+    NoZone,
+    /// The replica has the zone.
+    ZoneThere,
+    /// 64 replicas, or 16 zones of the replica, are there.
+    Full,
+}
+
+impl World {
+    fn has_id(&self, id: ReplicaId) -> bool
+        ensures { result ≡ list_any (has_id id) self.now.replicas }
+    {
+        self.replicas
+            .as_slice()
+            .iter()
+            .any(|replica| replica.id == id)
+    }
+
+    /// How many zones a replica has.
+    fn zones_of(&self, id: ReplicaId) -> usize
+        ensures { result ≡ count_by (is_of id) self.now.zones }
+    {
+        self.zones
+            .as_slice()
+            .iter()
+            .filter(|zone| zone.id == id)
+            .count()
+    }
+
+    /// The place of a replica's zone with this apex.
+    fn zone_at(&self, id: ReplicaId, apex: &Name) -> Option<usize>
+        ensures { result ≡ position (is_zone id apex.now) self.now.zones }
+    {
+        self.zones
+            .as_slice()
+            .iter()
+            .position(|zone| zone.id == id && zone.apex.same(apex))
+    }
+
+    #[tactic(auto, unfolding(crate::specs::World::wstep_replica))]
+    fn add_replica(&mut self, id: ReplicaId, host: Name) -> Result<WorldAnswer, OutOfMemory>
+        ensures ok { IfOk result (λ answer. wstep_replica self.old id host ≡ (self.new, answer)) }
+        ensures err { OnErr result (self.new ≡ self.old) }
+    {
+        if self.has_id(id) {
+            return Ok(WorldAnswer::No(WorldNo::IdTaken));
+        }
+        if self.replicas.len() >= 64 {
+            return Ok(WorldAnswer::No(WorldNo::Full));
+        }
+        self.replicas.push(Replica { id, host })?;
+        Ok(WorldAnswer::Made)
+    }
+
+    fn has_zone(&self, id: ReplicaId, apex: &Name) -> bool
+        ensures { result ≡ list_any (is_zone id apex.now) self.now.zones }
+    {
+        self.zones
+            .as_slice()
+            .iter()
+            .any(|zone| zone.id == id && zone.apex.same(apex))
+    }
+
+    /// Why a replica can't have a new zone with this apex.
+    fn no_room(&self, id: ReplicaId, apex: &Name) -> Option<WorldNo>
+        ensures { result ≡ no_room self.now id apex.now }
+    {
+        if self.has_zone(id, apex) {
+            Some(WorldNo::ZoneThere)
+        } else if self.zones_of(id) >= 16 {
+            Some(WorldNo::Full)
+        } else {
+            None
+        }
+    }
+
+    #[tactic(auto, unfolding(crate::specs::World::wstep, crate::specs::World::wstep_zone))]
+    fn create(
+        &mut self,
+        alloc: Global,
+        at: usize,
+        apex: Name,
+        mailbox: Name,
+        moment: Moment,
+    ) -> Result<WorldAnswer, OutOfMemory>
+        ensures ok { IfOk result (λ answer. wstep self.old (WorldEvent.Create at apex mailbox moment) ≡ (self.new, answer)) }
+        ensures err { OnErr result (self.new ≡ self.old) }
+    {
+        let Some(replica) = self.replicas.get(at) else {
+            return Ok(WorldAnswer::No(WorldNo::NoReplica));
+        };
+        if let Some(why) = self.no_room(replica.id, &apex) {
+            return Ok(WorldAnswer::No(why));
+        }
+        let zone = Zone::create(alloc, replica.id, replica.host, apex, mailbox, moment)?;
+        self.zones.push(zone)?;
+        Ok(WorldAnswer::Made)
+    }
+
+    #[tactic(auto, unfolding(crate::specs::World::wstep_act))]
+    fn act(
+        &mut self,
+        alloc: Global,
+        at: usize,
+        apex: &Name,
+        event: &Event,
+    ) -> Result<WorldAnswer, OutOfMemory>
+        ensures ok { IfOk result (λ answer. wstep_act self.old (slice_get self.old.replicas at) apex.now event.now ≡ (self.new, answer)) }
+        ensures err { OnErr result (self.new ≡ self.old) }
+    {
+        let Some(replica) = self.replicas.get(at) else {
+            return Ok(WorldAnswer::No(WorldNo::NoReplica));
+        };
+        let Some(place) = self.zone_at(replica.id, apex) else {
+            return Ok(WorldAnswer::No(WorldNo::NoZone));
+        };
+        let Some(zone) = self.zones.get(place) else {
+            return Ok(WorldAnswer::No(WorldNo::NoZone));
+        };
+        match zone.act(alloc, event)? {
+            Acted::Same(answer) => Ok(WorldAnswer::Zone(answer)),
+            Acted::Wrote(table, answer) => {
+                let after = Zone {
+                    id: zone.id,
+                    host: zone.host,
+                    apex: zone.apex,
+                    table,
+                };
+                self.zones.set(place, after);
+                Ok(WorldAnswer::Zone(answer))
+            }
+        }
+    }
+
+    /// What an event makes of the world. A refused event changes nothing.
+    ///
+    /// # Errors
+    /// `OutOfMemory`; the world is then as before.
+    #[tactic(auto, unfolding(crate::specs::World::wstep))]
+    pub fn step(&mut self, alloc: Global, event: &WorldEvent) -> Result<WorldAnswer, OutOfMemory>
+        ensures ok { IfOk result (λ answer. wstep self.old event.now ≡ (self.new, answer)) }
+        ensures err { OnErr result (self.new ≡ self.old) }
+    {
+        match event {
+            WorldEvent::Replica { id, host } => self.add_replica(*id, *host),
+            WorldEvent::Create {
+                at,
+                apex,
+                mailbox,
+                moment,
+            } => self.create(alloc, *at, *apex, *mailbox, *moment),
+            WorldEvent::Act { at, apex, event } => self.act(alloc, *at, apex, event),
+        }
+    }
+}

@@ -1,0 +1,247 @@
+ghost use Rattle.std.specs.Prelude.{◌≡◌, ◌≤◌, [], ◌∷◌, ◌++◌, length, IfOk, IsTrue, OnOk};
+ghost use Rattle.dn_name.specs.Name.{wire_of};
+ghost use Rattle.dn_store.specs.Value.{fits};
+ghost use Rattle.dn_script.specs.Acted.{Acts};
+ghost use Rattle.dn_script.specs.Node.{rows_at};
+ghost use Rattle.dn_script.specs.Zone.{
+  add_wanted,
+  created,
+  first_properties,
+  first_rows,
+  property,
+  seconds_of,
+  stamp_for,
+  with_table,
+  written,
+  zstep,
+};
+
+use crate::event::{AdminCmd, AdminDone, Answer, Event, Limit};
+use crate::node::with_added;
+use crate::words::copy_of;
+use dn_io::{List, Moment, OutOfMemory};
+use dn_name::{Name, NoRoom};
+use dn_store::{Property, Record, ReplicaId, Stamp, Table, Unit, UnitKey, UnitValue, Write, fits};
+use std::alloc::Global;
+
+/// Serial 1, refresh 900, retry 600, expire 86400 and minimum 3600 of a new zone's SOA (RFC 1035 3.3.13).
+const FIRST_NUMBERS: [u8; 20] = [
+    0, 0, 0, 1, 0, 0, 3, 132, 0, 0, 2, 88, 0, 1, 81, 128, 0, 0, 14, 16,
+];
+
+/// Types (RFC 1035 3.2.2).
+const NS: u16 = 2;
+
+const SOA: u16 = 6;
+
+/// The most writes that a zone takes.
+const MAX_CHANGES: u64 = 1 << 63;
+
+/// A zone on one replica.
+#[derive(Drop)]
+pub struct Zone {
+    pub id: ReplicaId,
+    /// The replica's own name, the primary server of the SOA that is answered.
+    pub host: Name,
+    /// The name of the zone, in lower case.
+    pub apex: Name,
+    pub table: Table,
+}
+
+/// What an event makes of a zone: it stays the same, or has this table from then on.
+#[derive(Drop)]
+pub enum Acted {
+    Same(Answer),
+    Wrote(Table, Answer),
+}
+
+#[tactic(auto, unfolding(crate::specs::Zone::property))]
+fn property(alloc: Global, id: u32, content: &[u8]) -> Result<Property, OutOfMemory>
+    ensures { IfOk result (λ item. item ≡ property id content.now) }
+{
+    Ok(Property {
+        name_length: 1,
+        flag: 0,
+        id,
+        content: copy_of(alloc, content)?,
+        tail: copy_of(alloc, &[0])?,
+    })
+}
+
+/// The properties of a new zone.
+#[tactic(auto, unfolding(crate::specs::Zone::first_properties))]
+fn first_properties(alloc: Global) -> Result<List<Property>, OutOfMemory>
+    ensures { IfOk result (λ list. list ≡ first_properties) }
+{
+    let mut list = List::new(alloc);
+    list.push(property(alloc, 0x01, &[1, 0, 0, 0])?)?;
+    list.push(property(alloc, 0x02, &[1])?)?;
+    list.push(property(alloc, 0x10, &[168, 0, 0, 0])?)?;
+    list.push(property(alloc, 0x12, &[0, 0, 0, 0])?)?;
+    list.push(property(alloc, 0x20, &[168, 0, 0, 0])?)?;
+    list.push(property(alloc, 0x40, &[0, 0, 0, 0])?)?;
+    Ok(list)
+}
+
+/// The name's bytes on the wire, behind others.
+fn push_wire(out: &mut List<u8>, name: &Name) -> Result<(), OutOfMemory>
+    ensures bytes { OnOk result (out.new ≡ out.old ++ wire_of name.now) }
+    ensures most { length (wire_of name.now) ≤ 255 }
+{
+    let mut wire = [0u8; 255];
+    let len = name.wire_len();
+    match name.write_wire(&mut wire, 0) {
+        Ok(_) => out.extend(&wire[..len]),
+        Err(NoRoom) => unreachable!(),
+    }
+}
+
+/// The records at the apex of a new zone.
+#[tactic(auto, unfolding(crate::specs::Zone::first_rows, crate::specs::Zone::first_numbers))]
+fn first_rows(alloc: Global, host: &Name, mailbox: &Name) -> Result<List<Record>, OutOfMemory>
+    ensures rows { IfOk result (λ rows. rows ≡ first_rows host.now mailbox.now) }
+    ensures fits { IfOk result (λ rows. IsTrue (fits (UnitValue.Live rows))) }
+{
+    let mut server = List::new(alloc);
+    push_wire(&mut server, host)?;
+    let mut start = List::new(alloc);
+    push_wire(&mut start, host)?;
+    push_wire(&mut start, mailbox)?;
+    start.extend(&FIRST_NUMBERS)?;
+    let mut rows = List::new(alloc);
+    rows.push(Record::make(alloc, NS, 3600, 0, server.as_slice())?)?;
+    rows.push(Record::make(alloc, SOA, 3600, 0, start.as_slice())?)?;
+    Ok(rows)
+}
+
+impl Zone {
+    /// A new zone: its properties, and the NS and SOA records at its apex.
+    ///
+    /// # Errors
+    /// `OutOfMemory`.
+    #[tactic(auto, unfolding(crate::specs::Zone::created, crate::specs::Zone::first_writes))]
+    pub fn create(
+        alloc: Global,
+        id: ReplicaId,
+        host: Name,
+        apex: Name,
+        mailbox: Name,
+        moment: Moment,
+    ) -> Result<Zone, OutOfMemory>
+        ensures { IfOk result (λ zone. zone ≡ created id host apex mailbox moment) }
+    {
+        let apex = apex.lower();
+        let stamp = Stamp::first(id, moment.seconds());
+        let mut batch = List::new(alloc);
+        batch.push(Write {
+            key: UnitKey::Props,
+            stamp,
+            value: UnitValue::Props(first_properties(alloc)?),
+        })?;
+        batch.push(Write {
+            key: UnitKey::Node(apex),
+            stamp,
+            value: UnitValue::Live(first_rows(alloc, &host, &mailbox)?),
+        })?;
+        let table = Table::empty(alloc)?.put(&batch)?;
+        Ok(Zone {
+            id,
+            host,
+            apex,
+            table,
+        })
+    }
+
+    /// The records of the node at a key.
+    #[tactic(auto, unfolding(crate::specs::Node::rows_at))]
+    fn rows_at(&self, key: &UnitKey) -> &[Record]
+        ensures { result.now ≡ rows_at key.now self.now.table.0 }
+    {
+        match self.table.find(key) {
+            Some(
+                Unit {
+                    value: UnitValue::Live(rows),
+                    ..
+                },
+            ) => rows.as_slice(),
+            _ => &[],
+        }
+    }
+
+    /// Writes one value, where it passes no limit.
+    #[tactic(auto, unfolding(crate::specs::Zone::written, crate::specs::Zone::stamped))]
+    fn write(
+        &self,
+        alloc: Global,
+        key: UnitKey,
+        value: UnitValue,
+        moment: Moment,
+    ) -> Result<Acted, OutOfMemory>
+        ensures { IfOk result (λ acted. Acts acted self.now (with_table self.now (written (record { key = key; value = value } ∷ []) self.now.id moment self.now.table))) }
+    {
+        if !fits(&value) {
+            return Ok(Acted::Same(Answer::Refused(Limit::NodeSize)));
+        }
+        let Some(stamp) = self.stamp_for(&key, moment) else {
+            return Ok(Acted::Same(Answer::Refused(Limit::Version)));
+        };
+        if self.table.top() >= MAX_CHANGES {
+            return Ok(Acted::Same(Answer::Refused(Limit::Changes)));
+        }
+        let mut batch = List::new(alloc);
+        batch.push(Write { key, stamp, value })?;
+        let table = self.table.put(&batch)?;
+        Ok(Acted::Wrote(table, Answer::Admin(AdminDone::Written { units: 1 })))
+    }
+
+    #[tactic(auto, unfolding(crate::specs::Zone::stamp_for))]
+    fn stamp_for(&self, key: &UnitKey, moment: Moment) -> Option<Stamp>
+        ensures { result ≡ stamp_for key.now self.now.table.0 self.now.id (seconds_of moment) }
+    {
+        match self.table.find(key) {
+            None => Some(Stamp::first(self.id, moment.seconds())),
+            Some(unit) => unit.stamp.next(self.id, moment.seconds()),
+        }
+    }
+
+    /// Adds a record at a name.
+    #[tactic(auto, unfolding(crate::specs::Zone::add_wanted, crate::specs::Zone::node_change))]
+    fn add(
+        &self,
+        alloc: Global,
+        name: &Name,
+        row: Record,
+        moment: Moment,
+    ) -> Result<Acted, OutOfMemory>
+        ensures { IfOk result (λ acted. Acts acted self.now (with_table self.now (written (add_wanted self.now name.now row moment) self.now.id moment self.now.table))) }
+    {
+        let key = UnitKey::Node(name.lower());
+        match with_added(alloc, row, self.rows_at(&key))? {
+            None => Ok(Acted::Same(Answer::Admin(AdminDone::Unchanged))),
+            Some(rows) => self.write(alloc, key, UnitValue::Live(rows), moment),
+        }
+    }
+
+    /// What an event makes of the zone.
+    ///
+    /// # Errors
+    /// `OutOfMemory`.
+    #[tactic(auto, unfolding(crate::specs::Zone::zstep))]
+    pub fn act(&self, alloc: Global, event: &Event) -> Result<Acted, OutOfMemory>
+        ensures { IfOk result (λ acted. Acts acted self.now (zstep self.now event.now)) }
+    {
+        let Event::Admin { cmd, moment } = event;
+        let AdminCmd::Add {
+            name,
+            ttl,
+            rtype,
+            rdata,
+            hour,
+        } = cmd;
+        if !name.is_under(&self.apex) {
+            return Ok(Acted::Same(Answer::Admin(AdminDone::NotInZone)));
+        }
+        let row = Record::make(alloc, *rtype, *ttl, *hour, rdata.as_slice())?;
+        self.add(alloc, name, row, *moment)
+    }
+}

@@ -1,0 +1,7 @@
+pub mod Places
+pub mod Tables
+pub mod Numbers
+pub mod Folded
+pub mod Growing
+pub mod Lower
+pub mod Found

@@ -1,0 +1,130 @@
+ghost use Rattle.std.specs.Prelude.{◌≡◌, ◌≤◌, ◌+◌, ◌^◌, ℕ, [], true, false, length, option_copied, IfOk, IsSomeAnd, IsTrue};
+ghost use Rattle.std.specs.List.{AllByRecursion};
+ghost use Rattle.std.specs.Ordering.{is_gt};
+ghost use Rattle.dn_store.specs.Table.{AreWritten, IsLeastAbove, IsNotWritten, IsTable, KeysDiffer, run_after, taken, unit_above, unit_at};
+ghost use Rattle.dn_store.specs.declared.unit.UnitKey.{UnitKey};
+ghost use Rattle.dn_store.specs.Value.{fits, key_order};
+
+use crate::changes::{front_of, last_of, newer_units};
+use crate::order::{find_above, find_key, take_writes};
+use crate::{Unit, UnitKey, Write};
+use dn_io::{Duplicate, List, OutOfMemory};
+use std::alloc::Global;
+use std::marker::Model;
+
+/// The units of a zone on one replica, as contracts see it the list of its units in the order of their keys, and its
+/// change count: the number of writes that the zone took on this replica.
+#[derive(Drop)]
+pub struct Table {
+    alloc: Global,
+    units: List<Unit>,
+    top: u64,
+}
+
+impl Model for Table {
+    ghost use Rattle.std.specs.Prelude.{ℕ, List as Seq};
+    ghost use Rattle.dn_store.specs.declared.unit.Unit as one;
+
+    ghost Value = { Seq one.Unit × ℕ };
+
+    ghost use Rattle.dn_store.specs.Table.{IsTable};
+
+    ghost view = { λ table. (table.units, table.top) };
+
+    ghost invariant = { λ table. IsTable table.units table.top };
+}
+
+/// The changes above a number, up to `to`.
+#[derive(Drop)]
+pub struct ChangeRun {
+    pub to: u64,
+    pub units: List<Unit>,
+}
+
+impl Table {
+    /// A table without units. (It keeps the allocator.)
+    pub fn empty(alloc: Global) -> Result<Table, OutOfMemory>
+        ensures { IfOk result (λ table. table ≡ ([], 0)) }
+    {
+        Ok(Table {
+            alloc,
+            units: List::new(alloc),
+            top: 0,
+        })
+    }
+
+    /// The change count.
+    pub fn top(&self) -> u64
+        ensures top { result ≡ self.now.1 }
+        ensures table { IsTable self.now.0 self.now.1 }
+    {
+        self.top
+    }
+
+    /// How many units there are.
+    pub fn count(&self) -> usize
+        ensures { result ≡ length self.now.0 }
+    {
+        self.units.len()
+    }
+
+    /// The unit of a key.
+    pub fn find(&self, key: &UnitKey) -> Option<&Unit>
+        ensures { option_copied result ≡ unit_at key.now self.now.0 }
+    {
+        find_key(self.units.as_slice(), key)
+    }
+
+    /// The unit of the least key above a key, of the least of all where no key is given.
+    pub fn next_after(&self, key: Option<&UnitKey>) -> Option<&Unit>
+        ensures first { option_copied result ≡ unit_above (option_copied key.entry) self.now.0 }
+        // No unit above the key is below the answer.
+        ensures least { IsLeastAbove (option_copied key.entry) (option_copied result) self.now.0 }
+    {
+        find_above(self.units.as_slice(), key)
+    }
+
+    /// A new table in which each write has replaced the unit of its key, under the numbers behind the change count. This
+    /// table stays as it is.
+    ///
+    /// # Errors
+    /// `OutOfMemory`.
+    #[tactic(auto, using(crate::proofs::Tables::table_taken))]
+    pub fn put(&self, batch: &List<Write>) -> Result<Table, OutOfMemory>
+        requires keys { KeysDiffer batch.now }
+        requires values { AllByRecursion (λ write. IsTrue (fits write.value)) batch.now }
+        requires count { self.now.1 + length batch.now ≤ 2 ^ 63 }
+        ensures after { IfOk result (λ table. table ≡ (taken self.now.0 self.now.1 batch.now, self.now.1 + length batch.now)) }
+        // So each write is found under its key, and under any other key the unit from before.
+        ensures written { IfOk result (λ table. AreWritten batch.now table.0) }
+        ensures others { (key : UnitKey) → IsNotWritten key batch.now → IfOk result (λ table. unit_at key table.0 ≡ unit_at key self.now.0) }
+    {
+        let mut units = self.units.copy(self.alloc)?.into_vec();
+        take_writes(self.alloc, &mut units, self.top, batch.as_slice())?;
+        Ok(Table {
+            alloc: self.alloc,
+            units: List::of(units),
+            top: self.top + batch.len() as u64,
+        })
+    }
+
+    /// The units above a number in the order of their numbers: the longest front that takes at most `room` bytes in a
+    /// packet.
+    ///
+    /// # Errors
+    /// `OutOfMemory`.
+    pub fn changes_after(&self, usn: u64, room: usize) -> Result<ChangeRun, OutOfMemory>
+        requires usn { usn ≤ self.now.1 }
+        requires room { 61000 ≤ room }
+        ensures { IfOk result (λ run. run ≡ run_after usn room self.now.1 self.now.0) }
+    {
+        let sorted = newer_units(self.alloc, usn, self.units.as_slice())?;
+        let front = front_of(self.alloc, room, sorted.as_slice())?;
+        let to = if front.len() == sorted.len() {
+            self.top
+        } else {
+            last_of(usn, front.as_slice())
+        };
+        Ok(ChangeRun { to, units: front })
+    }
+}

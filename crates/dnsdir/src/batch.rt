@@ -1,0 +1,44 @@
+ghost use Rattle.std.specs.Prelude.{◌≡◌, ◌≢◌, ◌↔◌, ◌≤◌, false, map};
+ghost use Rattle.dn_io.specs.Outside.{Rose, Told};
+ghost use Rattle.dnsdir.specs.Batch.{EndedAs, IsDoneOrWant, IsValid, is_batch};
+ghost use Rattle.dnsdir.specs.Command.{command_in};
+
+use crate::command::{Command, command_of};
+use dn_io::{Sink, Source, Status};
+use dn_script::replay;
+use std::alloc::Global;
+
+/// Does what the words of the command line ask for, but for serving: reads the source, writes to the sink, and answers
+/// how it ended.
+pub fn batch<S: Source, K: Sink>(
+    alloc: Global,
+    words: &[&str],
+    source: &mut S,
+    sink: &mut K,
+) -> Status
+    // Where the source tells: `replay` wrote the transcript of the script that was read, whole where each line is valid,
+    // and up to the first line that isn't, or is over-long; a front of it where a read, a write or a growth failed.
+    ensures written { Told (S.left source.old) (S.left source.new) (λ before now.
+        EndedAs (command_in (map (λ word. word.now) words.now)) before result now (K.written sink.old) (K.written sink.new)) }
+
+    // Usage is answered exactly where the words are no command of these, and nothing was read or written then.
+    ensures usage { (result ≡ Status.Usage) ↔ (is_batch (command_in (map (λ word. word.now) words.now)) ≡ false) }
+    ensures nothing { result ≡ Status.Usage → (source.new ≡ source.old) × (sink.new ≡ sink.old) }
+
+    // A fault of reading or writing has its cause in the source or the sink.
+    ensures read { result ≡ Status.ReadFault → Rose (S.faults source.old) (S.faults source.new) }
+    ensures write { result ≡ Status.WriteFault → Rose (K.faults sink.old) (K.faults sink.new) }
+    ensures link { result ≢ Status.LinkFault }
+
+    // Where each line is valid and neither count has risen, it is done, or wanted memory.
+    ensures complete { Told (S.left source.old) (S.left source.new) (λ before now.
+        IsValid (command_in (map (λ word. word.now) words.now)) before
+        → ¬ Rose (S.faults source.old) (S.faults source.new)
+        → ¬ Rose (K.faults sink.old) (K.faults sink.new)
+        → IsDoneOrWant result) }
+{
+    match command_of(words) {
+        Command::Replay => replay(alloc, source, sink),
+        _ => Status::Usage,
+    }
+}

@@ -1,0 +1,110 @@
+//! The program: what it reads and writes is the standard streams.
+#![tactic(auto)]
+
+mod batch;
+mod command;
+mod fault;
+#[cfg(test)]
+mod tests;
+
+use batch::batch;
+use dn_io::{Status, StdSink, StdSource};
+use fault::Fault;
+use std::alloc::Global;
+use std::process::ExitCode;
+use std::rt::Env;
+use std::{env, io};
+
+const HELP: &str = "\
+Replays an incident of DNS servers whose zones are directory nodes.
+
+usage: dnsdir replay < SCRIPT
+       dnsdir --help
+       dnsdir --version
+
+replay   reads a script from standard input and writes its transcript to standard output
+
+A script, and what it prints:
+
+    replica a 000102030405060708090a0b0c0d0e0f ns1.x
+    at 36000000000000
+    zone create a x admin.x
+    admin a x add h.x 3600 A 10.0.0.1
+
+    ok 1
+
+The status is 0 where each line was valid, 1 at the first line that isn't, 2 for other words, 3 where a read failed,
+4 where a write failed, 5 where memory ran out, and 6 where a line has more than 200,000 bytes or reaches past byte 2^30.
+";
+
+const VERSION: &str = "dnsdir 0.1.0\n";
+
+const USAGE: &str = "usage: dnsdir replay < SCRIPT (dnsdir --help says more)\n";
+
+// Why there are no words: one of them isn't UTF-8, or memory ran out.
+fn status_of(error: io::Error) -> Status {
+    if error.kind() == io::ErrorKind::OutOfMemory {
+        Status::OutOfMemory
+    } else {
+        Status::Usage
+    }
+}
+
+// The words of the command line behind the program's name.
+fn words_of(rt: &(impl Env + AllocGlobal)) -> io::Result<Vec<String>> {
+    let mut words = Vec::new(rt.alloc());
+    for word in env::args(rt)?.skip(1) {
+        words.push(word)?;
+    }
+    Ok(words)
+}
+
+fn print_text(rt: &impl Print, text: &str) -> Status {
+    match rt.print(text) {
+        Ok(()) => Status::Done,
+        Err(_) => Status::WriteFault,
+    }
+}
+
+// Replays over the standard streams.
+fn run_batch(rt: &(impl Input + Print), alloc: Global, words: &[&str]) -> Status {
+    let mut source = StdSource::of(rt.reader());
+    let mut sink = StdSink::of(io::writer(rt));
+    batch(alloc, words, &mut source, &mut sink)
+}
+
+fn run(rt: &(impl Input + Print), alloc: Global, words: &[&str]) -> Status {
+    match words {
+        [word] if *word == "--help" => print_text(rt, HELP),
+        [word] if *word == "--version" => print_text(rt, VERSION),
+        _ => run_batch(rt, alloc, words),
+    }
+}
+
+fn run_words(rt: &(impl Input + Print), alloc: Global, words: &[String]) -> Status {
+    let mut texts = Vec::new(alloc);
+    for word in words {
+        if texts.push(word.as_str()).is_err() {
+            return Status::OutOfMemory;
+        }
+    }
+    run(rt, alloc, &texts)
+}
+
+// Says on standard error what the status alone doesn't. Where that fails, the status still tells.
+fn explain(rt: &impl Eprint, status: &Status) {
+    let _ = match status {
+        Status::BadLine(number) => rt.eprintln(Fault::BadLine(*number)),
+        Status::Usage => rt.eprint(USAGE),
+        _ => Ok(()),
+    };
+}
+
+fn main(rt: HostRuntime) -> ExitCode {
+    let status = match words_of(&rt) {
+        Ok(words) => run_words(&rt, rt.alloc(), &words),
+        Err(error) => status_of(error),
+    };
+    explain(&rt, &status);
+    ExitCode::from(status.code())
+}
