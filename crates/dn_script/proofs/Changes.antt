@@ -1,5 +1,5 @@
 -- What adding a record makes of a zone.
-use Rattle.std.proofs.Common.{◌≡◌, ℕ, Bool, true, false, true≢false, cond, List, [], ◌∷◌, Some, None, refl, sym, ap, ◌∙◌, subst}
+use Rattle.std.proofs.Common.{◌≡◌, ℕ, Bool, true, false, true≢false, cond, List, [], ◌∷◌, Some, None, refl, sym, ◌∙◌, subst}
 use Rattle.std.specs.Ordering.{match_ordering}
 use Rattle.std.specs.declared.cmp.Ordering.{Ordering}
 use Rattle.std.specs.declared.cmp.Ordering.TheVariants.{Less, Equal, Greater}
@@ -13,8 +13,8 @@ use Rattle.dn_script.specs.declared.event.AdminDone.TheVariants.{Unchanged}
 use Rattle.dn_script.specs.declared.event.Answer.TheVariants.{Admin}
 use Rattle.dn_script.specs.declared.zone.Zone.{Zone}
 use Rattle.dn_script.specs.Added.{Adds}
-use Rattle.dn_script.specs.Node.{bars, has_data_of, is_alias, is_same_set, is_there_as, placed_row, rows_at, with_added, without_aliases}
-use Rattle.dn_script.specs.Zone.{Wanted, add_wanted, node_change, node_value, stamped, with_table, written}
+use Rattle.dn_script.specs.Node.{bars, is_same_set, is_there_as, placed_row, rows_at, with_added, without_aliases}
+use Rattle.dn_script.specs.Zone.{add_wanted, node_change, node_value, stamped, with_table, written}
 use Rattle.dn_script.proofs.NodeSets.{same_set_self}
 
 -- a list that has a first record

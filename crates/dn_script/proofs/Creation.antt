@@ -1,5 +1,5 @@
 -- What a new zone holds fits.
-use Rattle.std.proofs.Common.{◌≡◌, ℕ, List, refl, sym, subst}
+use Rattle.std.proofs.Common.{◌≡◌, List, refl, sym, subst}
 use Rattle.std.specs.Prelude.{IsTrue}
 use Rattle.dn_store.specs.declared.record.Property.{Property}
 use Rattle.dn_store.specs.declared.unit.UnitValue.TheVariants.{Props}

@@ -1,10 +1,16 @@
+pub mod Alikes
 pub mod Changes
 pub mod Creation
+pub mod GlueTurns
 pub mod NodeAdded
 pub mod NodeOrder
 pub mod NodePlaced
 pub mod NodeSets
 pub mod Numbers
+pub mod Prints
+pub mod RowsFound
+pub mod RowsWalked
 pub mod Runs
+pub mod WalkParts
 pub mod WordsParts
 pub mod Worlds

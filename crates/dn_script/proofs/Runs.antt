@@ -1,5 +1,5 @@
 -- How the play of a script goes on line by line.
-use Rattle.std.proofs.Common.{◌≡◌, ℕ, ◌+◌, Bool, true, false, cond, List, [], ◌∷◌, ◌++◌, Option, Some, None, Result, Ok, Err, refl, sym, ap, subst, ◌∙◌, append_assoc}
+use Rattle.std.proofs.Common.{◌≡◌, ℕ, ◌+◌, true, false, List, [], ◌∷◌, ◌++◌, Option, Some, None, Ok, Err, refl, sym, ap, subst, ◌∙◌, append_assoc}
 use Rattle.std.proofs.lemmas.List.{append-nil}
 use Rattle.std.specs.Io.KnownBytes.{Appends}
 use Rattle.dn_io.specs.Lines.{Held, RawLine, ReadsLine, is_overlong, lines_of, size_of, text_of}
@@ -10,7 +10,7 @@ use Rattle.dn_io.specs.declared.line.LineError.TheVariants as errors
 use Rattle.dn_io.specs.declared.status.Status.{Status}
 use Rattle.dn_io.specs.declared.status.Status.TheVariants.{Done, BadLine, Usage, ReadFault, WriteFault, OutOfMemory, TooLong, LinkFault}
 use Rattle.dn_script.specs.declared.script.Script.{Script}
-use Rattle.dn_script.specs.Play.{Ended, Ending, AtEnd, Bad, Long, Played, Step, after_step, ends, opening, play, play_lines, printing, step_text}
+use Rattle.dn_script.specs.Play.{Ended, AtEnd, Long, Played, after_step, ends, opening, play, play_lines, printing, step_text}
 use Rattle.dn_script.specs.Run.{GoesOn, RunsText, Stops, Turns, play_ahead, status_of}
 
 -- ---- what a sink holds

@@ -1,14 +1,13 @@
 -- A zone that stays the same leaves the world as it is.
-use Rattle.std.proofs.Common.{◌≡◌, ℕ, zero, suc, List, [], ◌∷◌, Option, Some, None, refl, sym, ap, ◌∙◌}
+use Rattle.std.proofs.Common.{◌≡◌, ℕ, zero, suc, List, [], ◌∷◌, Some, refl, sym, ap}
 use Rattle.std.specs.Prelude.{position, slice_get, slice_set}
 use Rattle.dn_script.specs.declared.event.Answer.{Answer}
 use Rattle.dn_script.specs.declared.event.Event.{Event}
 use Rattle.dn_script.specs.declared.world.Replica.{Replica}
 use Rattle.dn_script.specs.declared.world.World.{World}
-use Rattle.dn_script.specs.declared.world.WorldAnswer.{WorldAnswer}
 use Rattle.dn_script.specs.declared.world.WorldAnswer.TheVariants as answers
 use Rattle.dn_script.specs.declared.zone.Zone.{Zone}
-use Rattle.dn_script.specs.World.{act_at, act_in, acted_at, is_zone, wstep_act}
+use Rattle.dn_script.specs.World.{act_in, is_zone, wstep_act}
 use Rattle.dn_script.specs.Zone.{zstep}
 
 set_same : (zones : List Zone) (at : ℕ) (zone : Zone) → slice_get zones at ≡ Some zone → slice_set zones at zone ≡ zones

@@ -1,5 +1,5 @@
 -- Which line of a script is which command, whatever replicas and zones there are.
-use Rattle.std.specs.Prelude.{◌≡◌, ℕ, ◌-◌, ◌^◌, Bool, true, false, ◌||◌, nat_le, if◌then◌else◌, List, [], ◌∷◌, codes, Option, None, Some}
+use Rattle.std.specs.Prelude.{ℕ, ◌-◌, ◌^◌, Bool, ◌||◌, nat_le, if◌then◌else◌, List, [], ◌∷◌, codes, Option, None, Some}
 use Rattle.dn_name.specs.Text.{name_of_text}
 use Rattle.dn_script.specs.declared.event.AdminCmd.{AdminCmd}
 use Rattle.dn_script.specs.declared.event.AdminCmd.TheVariants.{Add}
@@ -75,6 +75,13 @@ admin_line (replica ∷ apex ∷ command) = do
   Some (lines.Admin replica its_apex cmd)
 admin_line words = None
 
+-- `ask R NAME TYPE`; a question for a type other than A isn't a line yet
+unfoldable pub ask_line : List (List ℕ) → Option ScriptLine
+ask_line (replica ∷ name ∷ qtype ∷ []) = do
+  its_name ← name_word name
+  if is_type_a qtype then Some (lines.Ask replica its_name 1) else None
+ask_line words = None
+
 -- a line of a script, by its words
 unfoldable pub line_of : List (List ℕ) → Option ScriptLine
 line_of [] = None
@@ -82,4 +89,5 @@ line_of (verb ∷ words) =
     if is_word verb (codes "replica") then replica_line words
     else (if is_word verb (codes "zone") then zone_line words
     else (if is_word verb (codes "at") then at_line words
-    else (if is_word verb (codes "admin") then admin_line words else None)))
+    else (if is_word verb (codes "admin") then admin_line words
+    else (if is_word verb (codes "ask") then ask_line words else None))))

@@ -1,5 +1,5 @@
 -- What a script prints, and how it ends.
-use Rattle.std.specs.Prelude.{◌≡◌, ℕ, ◌+◌, Bool, not, if◌then◌else◌, nat_eq, List, [], ◌∷◌, ◌++◌, length, position, Option, None, Some}
+use Rattle.std.specs.Prelude.{◌≡◌, ℕ, zero, suc, ◌+◌, Bool, not, if◌then◌else◌, nat_eq, List, [], ◌∷◌, ◌++◌, position, slice_get, Option, None, Some}
 use Rattle.std.specs.List.{list_any}
 use Rattle.std.specs.Io.KnownBytes.{Appends}
 use lib.Pointwise.{pointwise}
@@ -7,7 +7,6 @@ use Rattle.dn_io.specs.Lines.{RawLine, is_overlong, lines_of, size_of, text_of}
 use Rattle.dn_io.specs.Outside.{AppendsFront}
 use Rattle.dn_io.specs.declared.status.Status.{Status}
 use Rattle.dn_io.specs.declared.status.Status.TheVariants.{Done, BadLine, Usage, ReadFault, WriteFault, OutOfMemory, TooLong, LinkFault}
-use Rattle.dn_script.specs.declared.event.AdminCmd.{AdminCmd}
 use Rattle.dn_script.specs.declared.event.Event.TheVariants as events
 use Rattle.dn_script.specs.declared.line.ScriptLine.{ScriptLine}
 use Rattle.dn_script.specs.declared.line.ScriptLine.TheVariants as lines
@@ -17,8 +16,10 @@ use Rattle.dn_script.specs.declared.world.WorldAnswer.{WorldAnswer}
 use Rattle.dn_script.specs.declared.world.WorldAnswer.TheVariants as world
 use Rattle.dn_script.specs.declared.world.WorldEvent.{WorldEvent}
 use Rattle.dn_script.specs.declared.world.WorldEvent.TheVariants.{Act, Create, Replica}
+use Rattle.dn_script.specs.Ask.{world_reply}
 use Rattle.dn_script.specs.Line.{line_of}
 use Rattle.dn_script.specs.Print.{answer_text, as_line}
+use Rattle.dn_script.specs.PrintReply.{reply_text}
 use Rattle.dn_script.specs.Words.{◌>>=◌, does_nothing, words_of}
 use Rattle.dn_script.specs.World.{wstep}
 
@@ -64,6 +65,10 @@ run_line script (lines.At moment) = Some (record script { moment = moment }, [])
 run_line script (lines.Admin replica apex cmd) = do
   at ← number_of script replica
   run_event script (Act at apex (events.Admin cmd script.moment))
+run_line script (lines.Ask replica name qtype) = do
+  at ← number_of script replica
+  its ← slice_get script.world.replicas at
+  Some (script, reply_text (world_reply script.world its.id name qtype))
 
 -- The step of a script by the text of a line: none where the line isn't valid.
 unfoldable pub step_text : Script → List ℕ → Step
@@ -101,6 +106,20 @@ play_lines number before (line ∷ rest) script =
 -- the play of a whole script
 unfoldable pub play : List ℕ → Played
 play bytes = play_lines 1 0 (lines_of bytes) opening
+
+abbrev pub behind : Script → Step → Script
+behind script None = script
+behind script (Some after) = after.0
+
+-- The script behind so many of its lines. A line that isn't valid changes nothing.
+unfoldable pub script_after : ℕ → List RawLine → Script → Script
+script_after zero lines script = script
+script_after (suc count) [] script = script
+script_after (suc count) (line ∷ lines) script = script_after count lines (behind script (step_text script (text_of line)))
+
+-- the world behind so many lines of a script
+abbrev pub world_after : ℕ → List ℕ → World
+world_after count bytes = (script_after count (lines_of bytes) opening).world
 
 -- A run with this status wrote what the play says. Here `left` is what is left of the input, and `before` and `now` are
 -- what was written, where the sink tells it.

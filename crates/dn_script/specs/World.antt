@@ -1,8 +1,8 @@
 -- Replicas, their zones, and what an event makes of them.
-use Rattle.std.specs.Prelude.{◌≡◌, ℕ, ◌+◌, Bool, true, false, not, ◌&&◌, ◌||◌, nat_eq, nat_lt, nat_le, if◌then◌else◌, List, [], ◌∷◌, ◌++◌, length, count_by, position, slice_get, slice_set, Option, None, Some}
+use Rattle.std.specs.Prelude.{ℕ, Bool, ◌&&◌, nat_eq, nat_lt, nat_le, if◌then◌else◌, List, [], ◌∷◌, ◌++◌, length, filter, count_by, position, slice_get, slice_set, Option, None, Some}
 use Rattle.std.specs.List.{list_any}
 use lib.Pointwise.{pointwise}
-use Rattle.dn_name.specs.Name.{is_same}
+use Rattle.dn_name.specs.Name.{is_same, is_under}
 use Rattle.dn_store.specs.declared.stamp.ReplicaId.{ReplicaId}
 use Rattle.dn_script.specs.declared.event.Answer.{Answer}
 use Rattle.dn_script.specs.declared.event.Event.{Event}
@@ -84,3 +84,22 @@ wstep world (events.Replica id host) = wstep_replica world id host
 wstep world (events.Create at apex mailbox moment) =
     wstep_zone world (slice_get world.replicas at) apex (λ replica. created replica.id replica.host apex mailbox moment)
 wstep world (events.Act at apex event) = wstep_act world (slice_get world.replicas at) apex event
+
+-- ---- the zone that answers a question
+
+-- a zone of this replica under whose apex the name is
+unfoldable pub holds : ReplicaId → List (List ℕ) → Zone → Bool
+holds id name zone = is_of id zone && is_under name zone.apex
+
+abbrev pub nearer : Zone → Option Zone → Option Zone
+nearer zone None = Some zone
+nearer zone (Some other) = if nat_lt (length zone.apex) (length other.apex) then Some other else Some zone
+
+-- of the zones the one with the longest apex, by number of labels, the first of these
+unfoldable pub nearest : List Zone → Option Zone
+nearest [] = None
+nearest (zone ∷ zones) = nearer zone (nearest zones)
+
+-- the zone of a replica that answers for a name
+unfoldable pub zone_for : World → ReplicaId → List (List ℕ) → Option Zone
+zone_for world id name = nearest (filter (holds id name) world.zones)

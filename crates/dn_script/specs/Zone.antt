@@ -1,7 +1,6 @@
 -- A zone on one replica, and what its events make of it.
-use Rattle.std.specs.Prelude.{◌≡◌, ℕ, ◌+◌, ◌/◌, ◌^◌, Bool, true, false, not, ◌&&◌, ◌||◌, nat_eq, nat_lt, nat_le, if◌then◌else◌, List, [], ◌∷◌, ◌++◌, length, flat_map, Option, None, Some}
+use Rattle.std.specs.Prelude.{ℕ, ◌+◌, ◌/◌, ◌^◌, nat_lt, if◌then◌else◌, List, [], ◌∷◌, ◌++◌, length, Option, None, Some}
 use Rattle.std.specs.List.{list_all}
-use Rattle.std.specs.Int.{w32, to_be_bytes}
 use Rattle.dn_name.specs.Name.{is_under, lowered, wire_of}
 use Rattle.dn_store.specs.declared.record.Property.{Property}
 use Rattle.dn_store.specs.declared.record.Record.{Record}
@@ -19,9 +18,7 @@ use Rattle.dn_store.specs.Stamp.{first_stamp, next_stamp}
 use Rattle.dn_store.specs.Table.{taken, unit_at}
 use Rattle.dn_store.specs.Value.{fits}
 use Rattle.dn_script.specs.declared.zone.Zone.{Zone}
-use Rattle.dn_script.specs.declared.event.AdminCmd.{AdminCmd}
 use Rattle.dn_script.specs.declared.event.AdminCmd.TheVariants.{Add}
-use Rattle.dn_script.specs.declared.event.AdminDone.{AdminDone}
 use Rattle.dn_script.specs.declared.event.AdminDone.TheVariants.{Written, Unchanged, NotInZone}
 use Rattle.dn_script.specs.declared.event.Answer.{Answer}
 use Rattle.dn_script.specs.declared.event.Answer.TheVariants as answers

@@ -3,6 +3,7 @@ ghost use Rattle.dn_script.specs.Line.{
   add_of,
   address_command,
   admin_line,
+  ask_line,
   at_line,
   command_of,
   create_line,
@@ -51,6 +52,12 @@ pub enum ScriptLine {
         replica: List<u8>,
         apex: Name,
         cmd: AdminCmd,
+    },
+    /// `ask R NAME TYPE`
+    Ask {
+        replica: List<u8>,
+        name: Name,
+        qtype: u16,
     },
 }
 
@@ -207,6 +214,24 @@ fn admin_line(alloc: Global, words: &[&[u8]]) -> Result<ScriptLine, Bad>
     })
 }
 
+#[tactic(auto, unfolding(crate::specs::Line::ask_line))]
+fn ask_line(alloc: Global, words: &[&[u8]]) -> Result<ScriptLine, Bad>
+    ensures { Reads result (ask_line (map (λ word. word.now) words.now)) }
+{
+    let [replica, name, qtype] = words else {
+        return Err(Bad::Line);
+    };
+    let name = name_of(name)?;
+    if !is_type_a(qtype) {
+        return Err(Bad::Line);
+    }
+    Ok(ScriptLine::Ask {
+        replica: copy_of(alloc, replica)?,
+        name,
+        qtype: A,
+    })
+}
+
 /// The line of a script that the words are.
 ///
 /// # Errors
@@ -226,6 +251,8 @@ pub fn line_of(alloc: Global, words: &[&[u8]]) -> Result<ScriptLine, Bad>
         at_line(rest)
     } else if is_word(verb, b"admin") {
         admin_line(alloc, rest)
+    } else if is_word(verb, b"ask") {
+        ask_line(alloc, rest)
     } else {
         Err(Bad::Line)
     }

@@ -7,6 +7,7 @@ use crate::bad::Bad;
 use crate::event::{AdminCmd, Event};
 use crate::line::{ScriptLine, line_of};
 use crate::print::answer_line;
+use crate::print_reply::reply_text;
 use crate::words::{does_nothing, words};
 use crate::world::{World, WorldAnswer, WorldEvent};
 use dn_io::{List, Moment};
@@ -135,6 +136,21 @@ impl Script {
         self.run_event(alloc, &event)
     }
 
+    /// What a replica replies to a question.
+    #[tactic(auto, unfolding(crate::specs::Play::run_line))]
+    fn ask(&self, alloc: Global, replica: &[u8], name: &Name, qtype: u16) -> Result<List<u8>, Bad>
+        ensures { Steps result self.now (run_line self.now (ScriptLine.Ask replica.now name.now qtype)) }
+    {
+        let Some(at) = self.number_of(replica) else {
+            return Err(Bad::Line);
+        };
+        let Some(asked) = self.world.replicas.get(at) else {
+            return Err(Bad::Line);
+        };
+        let reply = self.world.reply(alloc, asked.id, name, qtype)?;
+        Ok(reply_text(alloc, &reply)?)
+    }
+
     /// Runs a line, and answers what it prints.
     #[tactic(auto, unfolding(crate::specs::Play::run_line))]
     fn run_line(&mut self, alloc: Global, line: ScriptLine) -> Result<List<u8>, Bad>
@@ -154,6 +170,11 @@ impl Script {
             ScriptLine::Admin { replica, apex, cmd } => {
                 self.admin(alloc, replica.as_slice(), apex, cmd)
             }
+            ScriptLine::Ask {
+                replica,
+                name,
+                qtype,
+            } => self.ask(alloc, replica.as_slice(), &name, qtype),
         }
     }
 

@@ -1,8 +1,10 @@
-ghost use Rattle.std.specs.Prelude.{◌≡◌, IfOk, OnErr, count_by, position, slice_get};
+ghost use Rattle.std.specs.Prelude.{◌≡◌, IfOk, OnErr, Some, count_by, option_copied, position, slice_get};
 ghost use Rattle.std.specs.List.{list_any};
-ghost use Rattle.dn_script.specs.World.{has_id, is_of, is_zone, no_room, wstep, wstep_act, wstep_replica};
+ghost use Rattle.dn_script.specs.Ask.{world_reply};
+ghost use Rattle.dn_script.specs.World.{has_id, holds, is_of, is_zone, nearer, no_room, wstep, wstep_act, wstep_replica, zone_for};
 
 use crate::event::{Answer, Event};
+use crate::reply::{Rcode, Reply};
 use crate::zone::{Acted, Zone};
 use dn_io::{List, Moment, OutOfMemory};
 use dn_name::Name;
@@ -62,6 +64,24 @@ pub enum WorldNo {
     ZoneThere,
     /// 64 replicas, or 16 zones of the replica, are there.
     Full,
+}
+
+/// Whether a zone is the replica's, and the name under its apex.
+#[tactic(auto, unfolding(crate::specs::World::holds))]
+fn holds(zone: &Zone, id: ReplicaId, name: &Name) -> bool
+    ensures { result ≡ holds id name.now zone.now }
+{
+    zone.id == id && name.is_under(&zone.apex)
+}
+
+/// The zone with the longer apex, the first where they are equally long.
+fn nearer<'a>(zone: &'a Zone, other: Option<&'a Zone>) -> &'a Zone
+    ensures { nearer zone.now (option_copied other.entry) ≡ Some result.now }
+{
+    match other {
+        Some(other) if zone.apex.labels() < other.apex.labels() => other,
+        _ => zone,
+    }
 }
 
 impl World {
@@ -187,6 +207,51 @@ impl World {
                 self.zones.set(place, after);
                 Ok(WorldAnswer::Zone(answer))
             }
+        }
+    }
+
+    /// The zone of a replica that answers for a name: of those that the name is under, the one with the longest apex.
+    #[tactic(auto, unfolding(crate::specs::World::zone_for, crate::specs::World::nearest))]
+    pub fn zone_for(&self, id: ReplicaId, name: &Name) -> Option<&Zone>
+        ensures { option_copied result ≡ zone_for self.now id name.now }
+    {
+        let zones = self.zones.as_slice();
+        let mut nearest: Option<&Zone> = None;
+        let mut at = zones.len();
+        while at > 0 {
+            at -= 1;
+            let zone = &zones[at];
+            if holds(zone, id, name) {
+                nearest = Some(nearer(zone, nearest));
+            }
+        }
+        nearest
+    }
+
+    /// What a replica replies to a question: REFUSED where none of its zones has the name.
+    ///
+    /// # Errors
+    /// `OutOfMemory`.
+    #[tactic(auto, unfolding(crate::specs::Ask::world_reply, crate::specs::Ask::reply_at))]
+    pub fn reply(
+        &self,
+        alloc: Global,
+        id: ReplicaId,
+        name: &Name,
+        qtype: u16,
+    ) -> Result<Reply, OutOfMemory>
+        ensures { IfOk result (λ reply. reply ≡ world_reply self.now id name.now qtype) }
+    {
+        match self.zone_for(id, name) {
+            Some(zone) => zone.reply(alloc, name, qtype),
+            None => Ok(Reply {
+                rcode: Rcode::Refused,
+                aa: false,
+                tc: false,
+                answer: List::new(alloc),
+                authority: List::new(alloc),
+                additional: List::new(alloc),
+            }),
         }
     }
 

@@ -2,6 +2,7 @@ ghost use Rattle.std.specs.Prelude.{◌≡◌, ◌≤◌, [], ◌∷◌, ◌++�
 ghost use Rattle.dn_name.specs.Name.{wire_of};
 ghost use Rattle.dn_store.specs.Value.{fits};
 ghost use Rattle.dn_script.specs.Acted.{Acts};
+ghost use Rattle.dn_script.specs.Ask.{serial_of, zone_reply};
 ghost use Rattle.dn_script.specs.Node.{rows_at};
 ghost use Rattle.dn_script.specs.Zone.{
   add_wanted,
@@ -16,8 +17,11 @@ ghost use Rattle.dn_script.specs.Zone.{
   zstep,
 };
 
+use crate::answer::answer_of;
 use crate::event::{AdminCmd, AdminDone, Answer, Event, Limit};
 use crate::node::with_added;
+use crate::reply::Reply;
+use crate::rows::rows_of;
 use crate::words::copy_of;
 use dn_io::{List, Moment, OutOfMemory};
 use dn_name::{Name, NoRoom};
@@ -36,6 +40,9 @@ const SOA: u16 = 6;
 
 /// The most writes that a zone takes.
 const MAX_CHANGES: u64 = 1 << 63;
+
+/// How many serials there are (RFC 1982).
+const SERIALS: u64 = 1 << 32;
 
 /// A zone on one replica.
 #[derive(Drop)]
@@ -84,7 +91,7 @@ fn first_properties(alloc: Global) -> Result<List<Property>, OutOfMemory>
 }
 
 /// The name's bytes on the wire, behind others.
-fn push_wire(out: &mut List<u8>, name: &Name) -> Result<(), OutOfMemory>
+pub fn push_wire(out: &mut List<u8>, name: &Name) -> Result<(), OutOfMemory>
     ensures bytes { OnOk result (out.new ≡ out.old ++ wire_of name.now) }
     ensures most { length (wire_of name.now) ≤ 255 }
 {
@@ -220,6 +227,33 @@ impl Zone {
             None => Ok(Acted::Same(Answer::Admin(AdminDone::Unchanged))),
             Some(rows) => self.write(alloc, key, UnitValue::Live(rows), moment),
         }
+    }
+
+    /// The serial that the zone's SOA is answered with: one above its change count, in 32 bits.
+    fn serial(&self) -> u32
+        ensures { result ≡ serial_of self.now }
+    {
+        ((self.table.top() % SERIALS + 1) % SERIALS) as u32
+    }
+
+    /// What the zone replies to a question.
+    ///
+    /// # Errors
+    /// `OutOfMemory`.
+    #[tactic(auto, unfolding(crate::specs::Ask::zone_reply))]
+    pub fn reply(&self, alloc: Global, name: &Name, qtype: u16) -> Result<Reply, OutOfMemory>
+        ensures { IfOk result (λ reply. reply ≡ zone_reply self.now name.now qtype) }
+    {
+        let rows = rows_of(alloc, &self.table)?;
+        answer_of(
+            alloc,
+            rows.as_slice(),
+            &self.apex,
+            self.serial(),
+            &self.host,
+            name,
+            qtype,
+        )
     }
 
     /// What an event makes of the zone.

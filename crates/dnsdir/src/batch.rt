@@ -1,11 +1,13 @@
-ghost use Rattle.std.specs.Prelude.{◌≡◌, ◌≢◌, ◌↔◌, ◌≤◌, false, map};
+ghost use Rattle.std.specs.Prelude.{◌≡◌, ◌≢◌, ◌↔◌, ◌≤◌, ℕ, List, false, map};
 ghost use Rattle.dn_io.specs.Outside.{Rose, Told};
+ghost use Rattle.dn_script.specs.Alike.{AnswersAlike};
+ghost use Rattle.dn_script.specs.Play.{world_after};
 ghost use Rattle.dnsdir.specs.Batch.{EndedAs, IsDoneOrWant, IsValid, is_batch};
 ghost use Rattle.dnsdir.specs.Command.{command_in};
 
 use crate::command::{Command, command_of};
 use dn_io::{Sink, Source, Status};
-use dn_script::replay;
+use dn_script::{equal_replicas_answer_alike, replay};
 use std::alloc::Global;
 
 /// Does what the words of the command line ask for, but for serving: reads the source, writes to the sink, and answers
@@ -36,7 +38,12 @@ pub fn batch<S: Source, K: Sink>(
         → ¬ Rose (S.faults source.old) (S.faults source.new)
         → ¬ Rose (K.faults sink.old) (K.faults sink.new)
         → IsDoneOrWant result) }
+
+    // In the world behind so many lines of any script, two replicas whose units of a zone are equal by key, stamp and value
+    // answer each question alike, save for the primary server and the serial of an SOA.
+    ensures alike { (script : List ℕ) (count : ℕ) → AnswersAlike (world_after count script) }
 {
+    equal_replicas_answer_alike();
     match command_of(words) {
         Command::Replay => replay(alloc, source, sink),
         _ => Status::Usage,

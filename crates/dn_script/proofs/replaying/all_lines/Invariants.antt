@@ -1,4 +1,4 @@
-use Rattle.std.proofs.Common.{◌≡◌, ℕ, ◌+◌, ◌-◌, ◌^◌, ◌≤◌, None}
+use Rattle.std.proofs.Common.{◌≡◌, ◌+◌, ◌-◌, ◌^◌, ◌≤◌, None}
 use Rattle.dn_io.specs.Outside.{Told}
 use Rattle.dn_script.specs.Run.{GoesOn, play_ahead}
 use Rattle.dn_script.proofs.replaying.all_lines.Given as goal
