@@ -1,7 +1,9 @@
 pub mod Alikes
 pub mod Changes
 pub mod Creation
+pub mod Filters
 pub mod GlueTurns
+pub mod Merges
 pub mod NodeAdded
 pub mod NodeOrder
 pub mod NodePlaced
@@ -11,6 +13,7 @@ pub mod Prints
 pub mod RowsFound
 pub mod RowsWalked
 pub mod Runs
+pub mod Sendings
 pub mod WalkParts
 pub mod WordsParts
 pub mod Worlds

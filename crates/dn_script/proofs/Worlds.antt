@@ -10,7 +10,7 @@ use Rattle.dn_script.specs.declared.zone.Zone.{Zone}
 use Rattle.dn_script.specs.World.{act_in, is_zone, wstep_act}
 use Rattle.dn_script.specs.Zone.{zstep}
 
-set_same : (zones : List Zone) (at : ℕ) (zone : Zone) → slice_get zones at ≡ Some zone → slice_set zones at zone ≡ zones
+pub set_same : (zones : List Zone) (at : ℕ) (zone : Zone) → slice_get zones at ≡ Some zone → slice_set zones at zone ≡ zones
 set_same [] at zone is = refl
 set_same (first ∷ rest) zero zone is = let e : first ≡ zone = cc in λ i. sym e i ∷ rest
 set_same (first ∷ rest) (suc at) zone is = ap (λ (zones : List Zone). first ∷ zones) (set_same rest at zone is)

@@ -6,6 +6,8 @@ pub mod Ask
 pub mod Follow
 pub mod GlueTurn
 pub mod Line
+pub mod Merge
+pub mod Merges
 pub mod Node
 pub mod NodePlaces
 pub mod Numbers
@@ -14,6 +16,7 @@ pub mod Print
 pub mod PrintReply
 pub mod Rows
 pub mod Run
+pub mod Sent
 pub mod Stepped
 pub mod Words
 pub mod World

@@ -38,9 +38,18 @@ create_line (replica ∷ apex ∷ mailbox ∷ []) = do
   Some (lines.Create replica its_apex its_mailbox)
 create_line words = None
 
+-- `join R Z`, behind `zone`
+unfoldable pub join_line : List (List ℕ) → Option ScriptLine
+join_line (replica ∷ apex ∷ []) = do
+  its_apex ← name_word apex
+  Some (lines.Join replica its_apex)
+join_line words = None
+
 unfoldable pub zone_line : List (List ℕ) → Option ScriptLine
 zone_line [] = None
-zone_line (verb ∷ words) = if is_word verb (codes "create") then create_line words else None
+zone_line (verb ∷ words) =
+    if is_word verb (codes "create") then create_line words
+    else (if is_word verb (codes "join") then join_line words else None)
 
 -- `at TICKS`
 unfoldable pub at_line : List (List ℕ) → Option ScriptLine
@@ -82,6 +91,26 @@ ask_line (replica ∷ name ∷ qtype ∷ []) = do
   if is_type_a qtype then Some (lines.Ask replica its_name 1) else None
 ask_line words = None
 
+-- `pull B A Z`
+unfoldable pub pull_line : List (List ℕ) → Option ScriptLine
+pull_line (replica ∷ supplier ∷ apex ∷ []) = do
+  its_apex ← name_word apex
+  Some (lines.Pull replica supplier its_apex)
+pull_line words = None
+
+-- `deliver K`
+unfoldable pub deliver_line : List (List ℕ) → Option ScriptLine
+deliver_line (number ∷ []) = do
+  packet ← number_within 4294967295 number
+  Some (lines.Deliver packet)
+deliver_line words = None
+
+-- the lines about packets
+unfoldable pub packet_verb : List ℕ → List (List ℕ) → Option ScriptLine
+packet_verb verb words =
+    if is_word verb (codes "pull") then pull_line words
+    else (if is_word verb (codes "deliver") then deliver_line words else None)
+
 -- a line of a script, by its words
 unfoldable pub line_of : List (List ℕ) → Option ScriptLine
 line_of [] = None
@@ -90,4 +119,4 @@ line_of (verb ∷ words) =
     else (if is_word verb (codes "zone") then zone_line words
     else (if is_word verb (codes "at") then at_line words
     else (if is_word verb (codes "admin") then admin_line words
-    else (if is_word verb (codes "ask") then ask_line words else None))))
+    else (if is_word verb (codes "ask") then ask_line words else packet_verb verb words))))

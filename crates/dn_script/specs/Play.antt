@@ -15,17 +15,17 @@ use Rattle.dn_script.specs.declared.world.World.{World}
 use Rattle.dn_script.specs.declared.world.WorldAnswer.{WorldAnswer}
 use Rattle.dn_script.specs.declared.world.WorldAnswer.TheVariants as world
 use Rattle.dn_script.specs.declared.world.WorldEvent.{WorldEvent}
-use Rattle.dn_script.specs.declared.world.WorldEvent.TheVariants.{Act, Create, Replica}
+use Rattle.dn_script.specs.declared.world.WorldEvent.TheVariants.{Act, Create, Deliver, Join, Pull, Replica}
 use Rattle.dn_script.specs.Ask.{world_reply}
 use Rattle.dn_script.specs.Line.{line_of}
-use Rattle.dn_script.specs.Print.{answer_text, as_line}
+use Rattle.dn_script.specs.Print.{answer_text, as_line, packet_text}
 use Rattle.dn_script.specs.PrintReply.{reply_text}
 use Rattle.dn_script.specs.Words.{◌>>=◌, does_nothing, words_of}
 use Rattle.dn_script.specs.World.{wstep}
 
 -- the script before its first line: no replica, and hour 1
 unfoldable pub opening : Script
-opening = record { names = []; world = record { replicas = []; zones = [] }; moment = 36000000000 }
+opening = record { names = []; world = record { replicas = []; zones = []; packets = [] }; moment = 36000000000 }
 
 abbrev pub is_named : List ℕ → List ℕ → Bool
 is_named name other = pointwise nat_eq other name
@@ -42,6 +42,7 @@ Step = Option (Script × List ℕ)
 abbrev pub after_event : Script → World × WorldAnswer → Step
 after_event script (now, world.Made) = Some (record script { world = now }, [])
 after_event script (now, world.Zone answer) = Some (record script { world = now }, as_line (answer_text answer))
+after_event script (now, world.Sent packet) = Some (record script { world = now }, as_line (packet_text packet))
 after_event script (now, world.No why) = None
 
 unfoldable pub run_event : Script → WorldEvent → Step
@@ -61,6 +62,14 @@ run_line script (lines.Replica name id host) = do
 run_line script (lines.Create replica apex mailbox) = do
   at ← number_of script replica
   run_event script (Create at apex mailbox script.moment)
+run_line script (lines.Join replica apex) = do
+  at ← number_of script replica
+  run_event script (Join at apex)
+run_line script (lines.Pull replica supplier apex) = do
+  by ← number_of script replica
+  of ← number_of script supplier
+  run_event script (Pull by of apex)
+run_line script (lines.Deliver packet) = run_event script (Deliver packet)
 run_line script (lines.At moment) = Some (record script { moment = moment }, [])
 run_line script (lines.Admin replica apex cmd) = do
   at ← number_of script replica

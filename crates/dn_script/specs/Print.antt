@@ -3,7 +3,7 @@ use Rattle.std.specs.Prelude.{ℕ, List, [], ◌∷◌, ◌++◌, codes, decimal
 use Rattle.dn_script.specs.declared.event.AdminDone.{AdminDone}
 use Rattle.dn_script.specs.declared.event.AdminDone.TheVariants.{Written, Unchanged, NotInZone}
 use Rattle.dn_script.specs.declared.event.Answer.{Answer}
-use Rattle.dn_script.specs.declared.event.Answer.TheVariants.{Admin, Refused}
+use Rattle.dn_script.specs.declared.event.Answer.TheVariants.{Admin, Gap, Merged, Refused}
 use Rattle.dn_script.specs.declared.event.Limit.{Limit}
 use Rattle.dn_script.specs.declared.event.Limit.TheVariants.{NodeSize, Version, Changes}
 
@@ -19,7 +19,12 @@ limit_text Changes = codes "refused changes"
 
 abbrev pub answer_text : Answer → List ℕ
 answer_text (Admin done) = admin_text done
+answer_text (Merged won) = codes "merged " ++ decimal won
+answer_text (Gap cursor from) = codes "gap " ++ decimal cursor ++ codes " " ++ decimal from
 answer_text (Refused limit) = limit_text limit
+
+abbrev pub packet_text : ℕ → List ℕ
+packet_text number = codes "packet " ++ decimal number
 
 -- a line of output
 abbrev pub as_line : List ℕ → List ℕ

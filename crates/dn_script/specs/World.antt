@@ -1,7 +1,6 @@
 -- Replicas, their zones, and what an event makes of them.
-use Rattle.std.specs.Prelude.{ℕ, Bool, ◌&&◌, nat_eq, nat_lt, nat_le, if◌then◌else◌, List, [], ◌∷◌, ◌++◌, length, filter, count_by, position, slice_get, slice_set, Option, None, Some}
+use Rattle.std.specs.Prelude.{ℕ, zero, suc, ◌+◌, Bool, ◌&&◌, nat_lt, nat_le, if◌then◌else◌, List, [], ◌∷◌, ◌++◌, length, count_by, filter, find, position, slice_get, slice_set, Option, None, Some}
 use Rattle.std.specs.List.{list_any}
-use lib.Pointwise.{pointwise}
 use Rattle.dn_name.specs.Name.{is_same, is_under}
 use Rattle.dn_store.specs.declared.stamp.ReplicaId.{ReplicaId}
 use Rattle.dn_script.specs.declared.event.Answer.{Answer}
@@ -9,17 +8,19 @@ use Rattle.dn_script.specs.declared.event.Event.{Event}
 use Rattle.dn_script.specs.declared.world.Replica.{Replica}
 use Rattle.dn_script.specs.declared.world.World.{World}
 use Rattle.dn_script.specs.declared.world.WorldAnswer.{WorldAnswer}
-use Rattle.dn_script.specs.declared.world.WorldAnswer.TheVariants.{Made, No}
+use Rattle.dn_script.specs.declared.world.WorldAnswer.TheVariants.{Made, No, Sent}
 use Rattle.dn_script.specs.declared.world.WorldAnswer.TheVariants as answers
 use Rattle.dn_script.specs.declared.world.WorldEvent.{WorldEvent}
 use Rattle.dn_script.specs.declared.world.WorldEvent.TheVariants as events
 use Rattle.dn_script.specs.declared.world.WorldNo.{WorldNo}
-use Rattle.dn_script.specs.declared.world.WorldNo.TheVariants.{IdTaken, NoReplica, NoZone, ZoneThere, Full}
+use Rattle.dn_script.specs.declared.world.WorldNo.TheVariants.{IdTaken, NoReplica, NoZone, ZoneThere, NoPacket, SelfPull, Full}
 use Rattle.dn_script.specs.declared.zone.Zone.{Zone}
-use Rattle.dn_script.specs.Zone.{created, zstep}
-
-abbrev pub is_id : ReplicaId → ReplicaId → Bool
-is_id left right = pointwise nat_eq left.0 right.0
+use Rattle.dn_script.specs.Zone.{created, joined, zstep}
+use Rattle.dn_script.specs.Merge.{changes_of, cursor_of, is_id}
+use Rattle.dn_script.specs.declared.packet.Packet.{Packet}
+use Rattle.dn_script.specs.declared.packet.Packet.TheVariants as packets
+use Rattle.dn_script.specs.declared.packet.Post.{Post}
+use Rattle.dn_script.specs.declared.event.Event.TheVariants as zone_events
 
 abbrev pub has_id : ReplicaId → Replica → Bool
 has_id id replica = is_id replica.id id
@@ -77,6 +78,57 @@ unfoldable pub wstep_act : World → Option Replica → List (List ℕ) → Even
 wstep_act world None apex event = (world, No NoReplica)
 wstep_act world (Some replica) apex event = act_at world event (position (is_zone replica.id apex) world.zones)
 
+-- ---- packets
+
+-- how many packets a run sends at most
+abbrev pub packet_limit : ℕ
+packet_limit = 4294967295
+
+-- a packet is sent; the first has number 1
+abbrev pub sent : World → ReplicaId → Packet → World × WorldAnswer
+sent world to packet =
+    if nat_le packet_limit (length world.packets) then (world, No Full)
+    else (record world { packets = world.packets ++ record { to = to; packet = packet } ∷ [] }, Sent (length world.packets + 1))
+
+-- the zone of a replica with this apex
+abbrev pub zone_of : World → ReplicaId → List (List ℕ) → Option Zone
+zone_of world id apex = find (is_zone id apex) world.zones
+
+-- what a zone asks of a supplier: its changes above the cursor
+abbrev pub pull_of : Zone → ReplicaId → Packet
+pull_of zone supplier = packets.Pull zone.apex zone.id (cursor_of supplier zone.cursors)
+
+abbrev pub pull_between : World → Replica → Replica → Option Zone → Option Zone → World × WorldAnswer
+pull_between world by of None theirs = (world, No NoZone)
+pull_between world by of (Some own) None = (world, No NoZone)
+pull_between world by of (Some own) (Some theirs) =
+    if is_id by.id of.id then (world, No SelfPull) else sent world of.id (pull_of own of.id)
+
+-- a replica asks another for a zone's changes
+unfoldable pub wstep_pull : World → Option Replica → Option Replica → List (List ℕ) → World × WorldAnswer
+wstep_pull world None of apex = (world, No NoReplica)
+wstep_pull world (Some by) None apex = (world, No NoReplica)
+wstep_pull world (Some by) (Some of) apex = pull_between world by of (zone_of world by.id apex) (zone_of world of.id apex)
+
+abbrev pub answer_pull : World → ReplicaId → ℕ → Option Zone → World × WorldAnswer
+answer_pull world from after None = (world, No NoZone)
+answer_pull world from after (Some zone) = sent world from (packets.Changes (changes_of zone.table zone.apex zone.id after))
+
+-- a packet comes to its receiver: one that asks is answered by another packet, changes are merged
+unfoldable pub deliver_to : World → ReplicaId → Packet → World × WorldAnswer
+deliver_to world to (packets.Pull apex from after) = answer_pull world from after (zone_of world to apex)
+deliver_to world to (packets.Changes changes) =
+    act_at world (zone_events.Merge changes) (position (is_zone to changes.zone) world.zones)
+
+abbrev pub deliver_post : World → Option Post → World × WorldAnswer
+deliver_post world None = (world, No NoPacket)
+deliver_post world (Some post) = deliver_to world post.to post.packet
+
+-- the packet of a number, from 1
+abbrev pub post_at : List Post → ℕ → Option Post
+post_at posts zero = None
+post_at posts (suc before) = slice_get posts before
+
 -- The step of the world: the world and the answer after an event. Replicas are numbered from 0. A refused event changes
 -- nothing.
 unfoldable pub wstep : World → WorldEvent → World × WorldAnswer
@@ -84,6 +136,10 @@ wstep world (events.Replica id host) = wstep_replica world id host
 wstep world (events.Create at apex mailbox moment) =
     wstep_zone world (slice_get world.replicas at) apex (λ replica. created replica.id replica.host apex mailbox moment)
 wstep world (events.Act at apex event) = wstep_act world (slice_get world.replicas at) apex event
+wstep world (events.Join at apex) =
+    wstep_zone world (slice_get world.replicas at) apex (λ replica. joined replica.id replica.host apex)
+wstep world (events.Pull by of apex) = wstep_pull world (slice_get world.replicas by) (slice_get world.replicas of) apex
+wstep world (events.Deliver number) = deliver_post world (post_at world.packets number)
 
 -- ---- the zone that answers a question
 

@@ -1,5 +1,5 @@
 -- A zone on one replica, and what its events make of it.
-use Rattle.std.specs.Prelude.{ℕ, ◌+◌, ◌/◌, ◌^◌, nat_lt, if◌then◌else◌, List, [], ◌∷◌, ◌++◌, length, Option, None, Some}
+use Rattle.std.specs.Prelude.{ℕ, ◌+◌, ◌/◌, ◌^◌, max, nat_lt, if◌then◌else◌, List, [], ◌∷◌, ◌++◌, length, Option, None, Some}
 use Rattle.std.specs.List.{list_all}
 use Rattle.dn_name.specs.Name.{is_under, lowered, wire_of}
 use Rattle.dn_store.specs.declared.record.Property.{Property}
@@ -18,6 +18,7 @@ use Rattle.dn_store.specs.Stamp.{first_stamp, next_stamp}
 use Rattle.dn_store.specs.Table.{taken, unit_at}
 use Rattle.dn_store.specs.Value.{fits}
 use Rattle.dn_script.specs.declared.zone.Zone.{Zone}
+use Rattle.dn_script.specs.declared.event.AdminCmd.{AdminCmd}
 use Rattle.dn_script.specs.declared.event.AdminCmd.TheVariants.{Add}
 use Rattle.dn_script.specs.declared.event.AdminDone.TheVariants.{Written, Unchanged, NotInZone}
 use Rattle.dn_script.specs.declared.event.Answer.{Answer}
@@ -25,7 +26,10 @@ use Rattle.dn_script.specs.declared.event.Answer.TheVariants as answers
 use Rattle.dn_script.specs.declared.event.Event.{Event}
 use Rattle.dn_script.specs.declared.event.Event.TheVariants as events
 use Rattle.dn_script.specs.declared.event.Limit.{Limit}
-use Rattle.dn_script.specs.declared.event.Limit.TheVariants.{NodeSize, Version, Changes}
+use Rattle.dn_script.specs.declared.event.Limit.TheVariants.{NodeSize, Version}
+use Rattle.dn_script.specs.declared.event.Limit.TheVariants as limits
+use Rattle.dn_script.specs.declared.packet.Changes.{Changes}
+use Rattle.dn_script.specs.Merge.{cursor_of, winners, with_cursor}
 use Rattle.dn_script.specs.Words.{◌>>=◌}
 use Rattle.dn_script.specs.Node.{is_same_set, rows_at, with_added}
 
@@ -71,7 +75,7 @@ when_stamped table None = (table, Passed Version)
 when_stamped table (Some []) = (table, Took 0)
 when_stamped table (Some (first ∷ rest)) =
     let writes = first ∷ rest in
-    if nat_lt (2 ^ 63) (table.1 + length writes) then (table, Passed Changes) else (with_writes writes table, Took (length writes))
+    if nat_lt (2 ^ 63) (table.1 + length writes) then (table, Passed limits.Changes) else (with_writes writes table, Took (length writes))
 
 -- The table after values are written at a moment by a replica. It stays as it is where a limit is passed, the first of
 -- these: a value doesn't fit, a unit is at its last version, the change count would pass 2^63.
@@ -105,12 +109,39 @@ add_wanted zone name row ticks =
     let before = rows_at key zone.table.0 in
     node_change key before (with_added row before) ticks
 
--- The step of a zone: the zone and the answer after an event.
-unfoldable pub zstep : Zone → Event → Zone × Answer
-zstep zone (events.Admin (Add name ttl rtype rdata hour) moment) =
+-- what a command of administration makes of a zone
+unfoldable pub admin_step : Zone → AdminCmd → ℕ → Zone × Answer
+admin_step zone (Add name ttl rtype rdata hour) moment =
     if is_under name zone.apex
     then with_table zone (written (add_wanted zone name (made rtype ttl hour rdata) moment) zone.id moment zone.table)
     else (zone, answers.Admin NotInZone)
+
+-- ---- taking what another replica sent
+
+abbrev pub moved : Zone → Changes → List Write → Zone
+moved zone changes won =
+    record zone {
+      table = with_writes won zone.table;
+      cursors = with_cursor changes.supplier (max (cursor_of changes.supplier zone.cursors) changes.to) zone.cursors;
+    }
+
+abbrev pub merged : Zone → Changes → List Write → Zone × Answer
+merged zone changes won =
+    if nat_lt (2 ^ 63) (zone.table.1 + length won) then (zone, answers.Refused limits.Changes)
+    else (moved zone changes won, answers.Merged (length won))
+
+-- Where changes are missing before these, nothing is taken. Else the newer of the units are, whatever the order in which
+-- packets came, and the cursor moves on.
+unfoldable pub merge_step : Zone → Changes → Zone × Answer
+merge_step zone changes =
+    if nat_lt (cursor_of changes.supplier zone.cursors) changes.from
+    then (zone, answers.Gap (cursor_of changes.supplier zone.cursors) changes.from)
+    else merged zone changes (winners zone.table.0 changes.units)
+
+-- The step of a zone: the zone and the answer after an event.
+unfoldable pub zstep : Zone → Event → Zone × Answer
+zstep zone (events.Admin cmd moment) = admin_step zone cmd moment
+zstep zone (events.Merge changes) = merge_step zone changes
 
 -- ---- a zone that is created
 
@@ -147,4 +178,8 @@ first_writes id host apex mailbox ticks =
 
 unfoldable pub created : ReplicaId → List (List ℕ) → List (List ℕ) → List (List ℕ) → ℕ → Zone
 created id host apex mailbox ticks =
-    record { id = id; host = host; apex = lowered apex; table = with_writes (first_writes id host apex mailbox ticks) ([], 0) }
+    record { id = id; host = host; apex = lowered apex; table = with_writes (first_writes id host apex mailbox ticks) ([], 0); cursors = [] }
+
+-- a zone that is copied from another replica: nothing is here yet
+unfoldable pub joined : ReplicaId → List (List ℕ) → List (List ℕ) → Zone
+joined id host apex = record { id = id; host = host; apex = lowered apex; table = ([], 0); cursors = [] }

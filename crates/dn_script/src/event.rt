@@ -1,3 +1,4 @@
+use crate::packet::Changes;
 use dn_io::{List, Moment};
 use dn_name::Name;
 
@@ -17,7 +18,10 @@ pub enum AdminCmd {
 /// What happens to a zone.
 #[derive(Drop)]
 pub enum Event {
+    /// A command of administration.
     Admin { cmd: AdminCmd, moment: Moment },
+    /// Changes that another replica sent.
+    Merge { changes: Changes },
 }
 
 /// A limit that a write would pass.
@@ -45,5 +49,9 @@ pub enum AdminDone {
 #[derive(Clone, Copy, Debug, PartialEq, Eq)]
 pub enum Answer {
     Admin(AdminDone),
+    /// So many of the units were newer than here, or new.
+    Merged { won: u32 },
+    /// Changes are missing between the cursor and the first of these.
+    Gap { cursor: u64, from: u64 },
     Refused(Limit),
 }

@@ -9,6 +9,7 @@ mod glue;
 mod line;
 mod node;
 mod number;
+mod packet;
 mod print;
 mod print_reply;
 mod replaying;
@@ -27,6 +28,8 @@ pub use replaying::replay;
 
 #[cfg(test)]
 mod answer_tests;
+#[cfg(test)]
+mod pull_tests;
 #[cfg(test)]
 mod reply_tests;
 #[cfg(test)]

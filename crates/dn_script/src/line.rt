@@ -7,10 +7,14 @@ ghost use Rattle.dn_script.specs.Line.{
   at_line,
   command_of,
   create_line,
+  deliver_line,
   is_type_a,
+  join_line,
   line_of,
   moment_of,
   name_word,
+  packet_verb,
+  pull_line,
   replica_line,
   zone_line,
 };
@@ -42,6 +46,21 @@ pub enum ScriptLine {
         replica: List<u8>,
         apex: Name,
         mailbox: Name,
+    },
+    /// `zone join R Z`
+    Join {
+        replica: List<u8>,
+        apex: Name,
+    },
+    /// `pull B A Z`
+    Pull {
+        replica: List<u8>,
+        supplier: List<u8>,
+        apex: Name,
+    },
+    /// `deliver K`
+    Deliver {
+        packet: u32,
     },
     /// `at TICKS`
     At {
@@ -121,12 +140,27 @@ fn create_line(alloc: Global, words: &[&[u8]]) -> Result<ScriptLine, Bad>
     })
 }
 
+#[tactic(auto, unfolding(crate::specs::Line::join_line))]
+fn join_line(alloc: Global, words: &[&[u8]]) -> Result<ScriptLine, Bad>
+    ensures { Reads result (join_line (map (λ word. word.now) words.now)) }
+{
+    let [replica, apex] = words else {
+        return Err(Bad::Line);
+    };
+    let apex = name_of(apex)?;
+    Ok(ScriptLine::Join {
+        replica: copy_of(alloc, replica)?,
+        apex,
+    })
+}
+
 #[tactic(auto, unfolding(crate::specs::Line::zone_line))]
 fn zone_line(alloc: Global, words: &[&[u8]]) -> Result<ScriptLine, Bad>
     ensures { Reads result (zone_line (map (λ word. word.now) words.now)) }
 {
     match words {
         [verb, rest @ ..] if is_word(verb, b"create") => create_line(alloc, rest),
+        [verb, rest @ ..] if is_word(verb, b"join") => join_line(alloc, rest),
         _ => Err(Bad::Line),
     }
 }
@@ -149,12 +183,12 @@ fn is_type_a(word: &[u8]) -> bool
     is_word(word, b"A") || is_word(word, b"TYPE1")
 }
 
-/// A time to live in seconds.
-fn ttl_of(word: &[u8]) -> Result<u32, Bad>
+/// A number of 32 bits.
+fn number_of(word: &[u8]) -> Result<u32, Bad>
     ensures { Reads result (number_within 4294967295 word.now) }
 {
     match number_within(u64::from(u32::MAX), word) {
-        Some(seconds) => Ok(seconds as u32),
+        Some(number) => Ok(number as u32),
         None => Err(Bad::Line),
     }
 }
@@ -165,7 +199,7 @@ fn address_command(alloc: Global, name: &[u8], ttl: &[u8], address: &[u8]) -> Re
     ensures { Reads result (address_command name.now ttl.now address.now) }
 {
     let name = name_of(name)?;
-    let ttl = ttl_of(ttl)?;
+    let ttl = number_of(ttl)?;
     let rdata = address_of(alloc, address)?;
     Ok(AdminCmd::Add {
         name,
@@ -232,6 +266,45 @@ fn ask_line(alloc: Global, words: &[&[u8]]) -> Result<ScriptLine, Bad>
     })
 }
 
+#[tactic(auto, unfolding(crate::specs::Line::pull_line))]
+fn pull_line(alloc: Global, words: &[&[u8]]) -> Result<ScriptLine, Bad>
+    ensures { Reads result (pull_line (map (λ word. word.now) words.now)) }
+{
+    let [replica, supplier, apex] = words else {
+        return Err(Bad::Line);
+    };
+    let apex = name_of(apex)?;
+    Ok(ScriptLine::Pull {
+        replica: copy_of(alloc, replica)?,
+        supplier: copy_of(alloc, supplier)?,
+        apex,
+    })
+}
+
+#[tactic(auto, unfolding(crate::specs::Line::deliver_line))]
+fn deliver_line(words: &[&[u8]]) -> Result<ScriptLine, Bad>
+    ensures { Reads result (deliver_line (map (λ word. word.now) words.now)) }
+{
+    let [number] = words else {
+        return Err(Bad::Line);
+    };
+    let packet = number_of(number)?;
+    Ok(ScriptLine::Deliver { packet })
+}
+
+#[tactic(auto, unfolding(crate::specs::Line::packet_verb))]
+fn packet_verb(alloc: Global, verb: &[u8], words: &[&[u8]]) -> Result<ScriptLine, Bad>
+    ensures { Reads result (packet_verb verb.now (map (λ word. word.now) words.now)) }
+{
+    if is_word(verb, b"pull") {
+        pull_line(alloc, words)
+    } else if is_word(verb, b"deliver") {
+        deliver_line(words)
+    } else {
+        Err(Bad::Line)
+    }
+}
+
 /// The line of a script that the words are.
 ///
 /// # Errors
@@ -254,6 +327,6 @@ pub fn line_of(alloc: Global, words: &[&[u8]]) -> Result<ScriptLine, Bad>
     } else if is_word(verb, b"ask") {
         ask_line(alloc, rest)
     } else {
-        Err(Bad::Line)
+        packet_verb(alloc, verb, rest)
     }
 }

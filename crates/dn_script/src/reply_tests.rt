@@ -75,6 +75,7 @@ fn world(rt: &impl Abort, alloc: Global, apexes: &[&[u8]]) -> Result<World, Fail
     let mut world = World {
         replicas: List::new(alloc),
         zones: List::new(alloc),
+        packets: List::new(alloc),
     };
     let host = name(b"ns.x")?;
     world.step(alloc, &WorldEvent::Replica { id: ID, host })?;

@@ -6,7 +6,7 @@ ghost use Rattle.dn_script.specs.Stepped.{Steps};
 use crate::bad::Bad;
 use crate::event::{AdminCmd, Event};
 use crate::line::{ScriptLine, line_of};
-use crate::print::answer_line;
+use crate::print::{answer_line, packet_line};
 use crate::print_reply::reply_text;
 use crate::words::{does_nothing, words};
 use crate::world::{World, WorldAnswer, WorldEvent};
@@ -35,6 +35,7 @@ impl Script {
             world: World {
                 replicas: List::new(alloc),
                 zones: List::new(alloc),
+                packets: List::new(alloc),
             },
             moment,
         }
@@ -68,6 +69,7 @@ impl Script {
         match self.world.step(alloc, event)? {
             WorldAnswer::Made => Ok(List::new(alloc)),
             WorldAnswer::Zone(answer) => Ok(answer_line(alloc, answer)?),
+            WorldAnswer::Sent { packet } => Ok(packet_line(alloc, packet)?),
             WorldAnswer::No(_) => Err(Bad::Line),
         }
     }
@@ -110,6 +112,35 @@ impl Script {
             moment: self.moment,
         };
         self.run_event(alloc, &event)
+    }
+
+    #[tactic(auto, unfolding(crate::specs::Play::run_line))]
+    fn join(&mut self, alloc: Global, replica: &[u8], apex: Name) -> Result<List<u8>, Bad>
+        ensures { Steps result self.new (run_line self.old (ScriptLine.Join replica.now apex)) }
+    {
+        let Some(at) = self.number_of(replica) else {
+            return Err(Bad::Line);
+        };
+        self.run_event(alloc, &WorldEvent::Join { at, apex })
+    }
+
+    #[tactic(auto, unfolding(crate::specs::Play::run_line))]
+    fn pull(
+        &mut self,
+        alloc: Global,
+        replica: &[u8],
+        supplier: &[u8],
+        apex: Name,
+    ) -> Result<List<u8>, Bad>
+        ensures { Steps result self.new (run_line self.old (ScriptLine.Pull replica.now supplier.now apex)) }
+    {
+        let Some(by) = self.number_of(replica) else {
+            return Err(Bad::Line);
+        };
+        let Some(of) = self.number_of(supplier) else {
+            return Err(Bad::Line);
+        };
+        self.run_event(alloc, &WorldEvent::Pull { by, of, apex })
     }
 
     #[tactic(auto, unfolding(crate::specs::Play::run_line))]
@@ -163,6 +194,15 @@ impl Script {
                 apex,
                 mailbox,
             } => self.create(alloc, replica.as_slice(), apex, mailbox),
+            ScriptLine::Join { replica, apex } => self.join(alloc, replica.as_slice(), apex),
+            ScriptLine::Pull {
+                replica,
+                supplier,
+                apex,
+            } => self.pull(alloc, replica.as_slice(), supplier.as_slice(), apex),
+            ScriptLine::Deliver { packet } => {
+                self.run_event(alloc, &WorldEvent::Deliver { packet })
+            }
             ScriptLine::At { moment } => {
                 self.moment = moment;
                 Ok(List::new(alloc))

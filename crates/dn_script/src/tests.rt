@@ -3,7 +3,7 @@ use dn_io::{List, MemSink, MemSource, Status};
 use std::test::Fail;
 
 /// The status and the output of a script.
-fn played(rt: &HostRuntime, script: &[u8]) -> Result<(Status, Vec<u8>), Fail> {
+pub fn played(rt: &HostRuntime, script: &[u8]) -> Result<(Status, Vec<u8>), Fail> {
     let alloc = rt.alloc();
     let bytes = List::of(Vec::from_slice(alloc, script)?);
     let mut source = MemSource::of(bytes, List::new(alloc));

@@ -1,15 +1,20 @@
 ghost use Rattle.std.specs.Prelude.{◌≡◌, IfOk, OnErr, Some, count_by, option_copied, position, slice_get};
 ghost use Rattle.std.specs.List.{list_any};
 ghost use Rattle.dn_script.specs.Ask.{world_reply};
-ghost use Rattle.dn_script.specs.World.{has_id, holds, is_of, is_zone, nearer, no_room, wstep, wstep_act, wstep_replica, zone_for};
+ghost use Rattle.dn_script.specs.Merges.{MergesAt};
+ghost use Rattle.dn_script.specs.World.{answer_pull, deliver_post, has_id, holds, is_of, is_zone, nearer, no_room, post_at, sent, wstep, wstep_act, wstep_pull, wstep_replica, zone_for, zone_of};
 
 use crate::event::{Answer, Event};
+use crate::packet::{Changes, Packet, Post};
 use crate::reply::{Rcode, Reply};
 use crate::zone::{Acted, Zone};
 use dn_io::{List, Moment, OutOfMemory};
 use dn_name::Name;
 use dn_store::ReplicaId;
 use std::alloc::Global;
+
+/// The most packets of a run.
+const MAX_PACKETS: usize = 4_294_967_295;
 
 /// A server.
 #[derive(Drop)]
@@ -23,6 +28,8 @@ pub struct Replica {
 pub struct World {
     pub replicas: List<Replica>,
     pub zones: List<Zone>,
+    /// The packets that were sent, in order. One may be delivered any number of times, or never.
+    pub packets: List<Post>,
 }
 
 /// What happens in the world. Replicas are numbered from 0.
@@ -38,10 +45,24 @@ pub enum WorldEvent {
         mailbox: Name,
         moment: Moment,
     },
+    Join {
+        at: usize,
+        apex: Name,
+    },
     Act {
         at: usize,
         apex: Name,
         event: Event,
+    },
+    /// A replica asks another for the changes of a zone.
+    Pull {
+        by: usize,
+        of: usize,
+        apex: Name,
+    },
+    /// A packet comes to its receiver. The first that was sent has number 1.
+    Deliver {
+        packet: u32,
     },
 }
 
@@ -50,6 +71,7 @@ pub enum WorldEvent {
 pub enum WorldAnswer {
     Made,
     Zone(Answer),
+    Sent { packet: u32 },
     No(WorldNo),
 }
 
@@ -62,7 +84,11 @@ pub enum WorldNo {
     NoZone,
     /// The replica has the zone.
     ZoneThere,
-    /// 64 replicas, or 16 zones of the replica, are there.
+    /// No packet of this number was sent.
+    NoPacket,
+    /// A replica asks itself.
+    SelfPull,
+    /// 64 replicas, 16 zones of the replica, or all numbers of packets are there.
     Full,
 }
 
@@ -82,6 +108,40 @@ fn nearer<'a>(zone: &'a Zone, other: Option<&'a Zone>) -> &'a Zone
         Some(other) if zone.apex.labels() < other.apex.labels() => other,
         _ => zone,
     }
+}
+
+/// The zone of a replica takes what another sent.
+fn merge_at(
+    alloc: Global,
+    zones: &mut List<Zone>,
+    id: ReplicaId,
+    changes: &Changes,
+) -> Result<WorldAnswer, OutOfMemory>
+    ensures ok { IfOk result (λ answer. MergesAt zones.old zones.new id changes.now answer) }
+    ensures err { OnErr result (zones.new ≡ zones.old) }
+{
+    let Some(place) = place_of(zones.as_slice(), id, &changes.zone) else {
+        return Ok(WorldAnswer::No(WorldNo::NoZone));
+    };
+    let Some(zone) = zones.get(place) else {
+        return Ok(WorldAnswer::No(WorldNo::NoZone));
+    };
+    match zone.merge(alloc, changes)? {
+        Acted::Same(answer) => Ok(WorldAnswer::Zone(answer)),
+        Acted::Became(after, answer) => {
+            zones.set(place, after);
+            Ok(WorldAnswer::Zone(answer))
+        }
+    }
+}
+
+/// The place of a replica's zone with this apex.
+fn place_of(zones: &[Zone], id: ReplicaId, apex: &Name) -> Option<usize>
+    ensures { result ≡ position (is_zone id apex.now) zones.now }
+{
+    zones
+        .iter()
+        .position(|zone| zone.id == id && zone.apex.same(apex))
 }
 
 impl World {
@@ -109,10 +169,7 @@ impl World {
     fn zone_at(&self, id: ReplicaId, apex: &Name) -> Option<usize>
         ensures { result ≡ position (is_zone id apex.now) self.now.zones }
     {
-        self.zones
-            .as_slice()
-            .iter()
-            .position(|zone| zone.id == id && zone.apex.same(apex))
+        place_of(self.zones.as_slice(), id, apex)
     }
 
     #[tactic(auto, unfolding(crate::specs::World::wstep_replica))]
@@ -197,13 +254,7 @@ impl World {
         };
         match zone.act(alloc, event)? {
             Acted::Same(answer) => Ok(WorldAnswer::Zone(answer)),
-            Acted::Wrote(table, answer) => {
-                let after = Zone {
-                    id: zone.id,
-                    host: zone.host,
-                    apex: zone.apex,
-                    table,
-                };
+            Acted::Became(after, answer) => {
                 self.zones.set(place, after);
                 Ok(WorldAnswer::Zone(answer))
             }
@@ -255,6 +306,113 @@ impl World {
         }
     }
 
+    #[tactic(auto, unfolding(crate::specs::World::wstep, crate::specs::World::wstep_zone))]
+    fn join(&mut self, alloc: Global, at: usize, apex: Name) -> Result<WorldAnswer, OutOfMemory>
+        ensures ok { IfOk result (λ answer. wstep self.old (WorldEvent.Join at apex) ≡ (self.new, answer)) }
+        ensures err { OnErr result (self.new ≡ self.old) }
+    {
+        let Some(replica) = self.replicas.get(at) else {
+            return Ok(WorldAnswer::No(WorldNo::NoReplica));
+        };
+        if let Some(why) = self.no_room(replica.id, &apex) {
+            return Ok(WorldAnswer::No(why));
+        }
+        let zone = Zone::join(alloc, replica.id, replica.host, apex)?;
+        self.zones.push(zone)?;
+        Ok(WorldAnswer::Made)
+    }
+
+    /// Sends a packet. The first has number 1.
+    fn send(&mut self, to: ReplicaId, packet: Packet) -> Result<WorldAnswer, OutOfMemory>
+        ensures ok { IfOk result (λ answer. sent self.old to packet ≡ (self.new, answer)) }
+        ensures err { OnErr result (self.new ≡ self.old) }
+    {
+        let before = self.packets.len();
+        if before >= MAX_PACKETS {
+            return Ok(WorldAnswer::No(WorldNo::Full));
+        }
+        self.packets.push(Post { to, packet })?;
+        Ok(WorldAnswer::Sent {
+            packet: before as u32 + 1,
+        })
+    }
+
+    /// The zone of a replica with this apex.
+    fn zone_of(&self, id: ReplicaId, apex: &Name) -> Option<&Zone>
+        ensures { option_copied result ≡ zone_of self.now id apex.now }
+    {
+        self.zones
+            .as_slice()
+            .iter()
+            .find(|zone| zone.id == id && zone.apex.same(apex))
+    }
+
+    #[tactic(auto, unfolding(crate::specs::World::wstep_pull))]
+    fn pull(&mut self, by: usize, of: usize, apex: &Name) -> Result<WorldAnswer, OutOfMemory>
+        ensures ok { IfOk result (λ answer. wstep_pull self.old (slice_get self.old.replicas by) (slice_get self.old.replicas of) apex.now ≡ (self.new, answer)) }
+        ensures err { OnErr result (self.new ≡ self.old) }
+    {
+        let (Some(by), Some(of)) = (self.replicas.get(by), self.replicas.get(of)) else {
+            return Ok(WorldAnswer::No(WorldNo::NoReplica));
+        };
+        let Some(own) = self.zone_of(by.id, apex) else {
+            return Ok(WorldAnswer::No(WorldNo::NoZone));
+        };
+        if self.zone_of(of.id, apex).is_none() {
+            return Ok(WorldAnswer::No(WorldNo::NoZone));
+        }
+        if by.id == of.id {
+            return Ok(WorldAnswer::No(WorldNo::SelfPull));
+        }
+        let supplier = of.id;
+        let packet = own.pull(supplier);
+        self.send(supplier, packet)
+    }
+
+    /// Answers a replica that asks for a zone's changes above a number.
+    fn answer_pull(
+        &mut self,
+        alloc: Global,
+        to: ReplicaId,
+        apex: &Name,
+        from: ReplicaId,
+        after: u64,
+    ) -> Result<WorldAnswer, OutOfMemory>
+        ensures ok { IfOk result (λ answer. answer_pull self.old from after (zone_of self.old to apex.now) ≡ (self.new, answer)) }
+        ensures err { OnErr result (self.new ≡ self.old) }
+    {
+        let Some(zone) = self.zone_of(to, apex) else {
+            return Ok(WorldAnswer::No(WorldNo::NoZone));
+        };
+        let packet = zone.changes(alloc, after)?;
+        self.send(from, packet)
+    }
+
+    /// A packet comes to its receiver: one that asks is answered by another packet, changes are merged.
+    #[tactic(auto, unfolding(crate::specs::World::deliver_to))]
+    fn deliver(&mut self, alloc: Global, number: u32) -> Result<WorldAnswer, OutOfMemory>
+        ensures ok { IfOk result (λ answer. deliver_post self.old (post_at self.old.packets number) ≡ (self.new, answer)) }
+        ensures err { OnErr result (self.new ≡ self.old) }
+    {
+        if number == 0 {
+            return Ok(WorldAnswer::No(WorldNo::NoPacket));
+        }
+        let Some(post) = self.packets.get(number as usize - 1) else {
+            return Ok(WorldAnswer::No(WorldNo::NoPacket));
+        };
+        match &post.packet {
+            Packet::Pull {
+                zone,
+                from_id,
+                after,
+            } => {
+                let (to, apex, from, after) = (post.to, *zone, *from_id, *after);
+                self.answer_pull(alloc, to, &apex, from, after)
+            }
+            Packet::Changes(changes) => merge_at(alloc, &mut self.zones, post.to, changes),
+        }
+    }
+
     /// What an event makes of the world. A refused event changes nothing.
     ///
     /// # Errors
@@ -272,7 +430,10 @@ impl World {
                 mailbox,
                 moment,
             } => self.create(alloc, *at, *apex, *mailbox, *moment),
+            WorldEvent::Join { at, apex } => self.join(alloc, *at, *apex),
             WorldEvent::Act { at, apex, event } => self.act(alloc, *at, apex, event),
+            WorldEvent::Pull { by, of, apex } => self.pull(*by, *of, apex),
+            WorldEvent::Deliver { packet } => self.deliver(alloc, *packet),
         }
     }
 }

@@ -1,14 +1,22 @@
-ghost use Rattle.std.specs.Prelude.{◌≡◌, ◌≤◌, [], ◌∷◌, ◌++◌, length, IfOk, IsTrue, OnOk};
+ghost use Rattle.std.specs.Prelude.{◌≡◌, ◌+◌, ◌≤◌, ◌^◌, [], ◌∷◌, ◌++◌, length, IfOk, IsTrue, OnOk};
 ghost use Rattle.dn_name.specs.Name.{wire_of};
 ghost use Rattle.dn_store.specs.Value.{fits};
 ghost use Rattle.dn_script.specs.Acted.{Acts};
 ghost use Rattle.dn_script.specs.Ask.{serial_of, zone_reply};
+ghost use Rattle.std.specs.List.{AllByRecursion};
+ghost use Rattle.dn_store.specs.Table.{KeysDiffer};
+ghost use Rattle.dn_script.specs.Merge.{changes_of, winners, wins};
 ghost use Rattle.dn_script.specs.Node.{rows_at};
+ghost use Rattle.dn_script.specs.World.{pull_of};
 ghost use Rattle.dn_script.specs.Zone.{
   add_wanted,
+  admin_step,
   created,
   first_properties,
   first_rows,
+  joined,
+  merge_step,
+  moved,
   property,
   seconds_of,
   stamp_for,
@@ -20,10 +28,11 @@ ghost use Rattle.dn_script.specs.Zone.{
 use crate::answer::answer_of;
 use crate::event::{AdminCmd, AdminDone, Answer, Event, Limit};
 use crate::node::with_added;
+use crate::packet::{Changes, Cursor, Packet, changes_of, cursor_of, with_cursor};
 use crate::reply::Reply;
 use crate::rows::rows_of;
 use crate::words::copy_of;
-use dn_io::{List, Moment, OutOfMemory};
+use dn_io::{Duplicate, List, Moment, OutOfMemory};
 use dn_name::{Name, NoRoom};
 use dn_store::{Property, Record, ReplicaId, Stamp, Table, Unit, UnitKey, UnitValue, Write, fits};
 use std::alloc::Global;
@@ -53,13 +62,15 @@ pub struct Zone {
     /// The name of the zone, in lower case.
     pub apex: Name,
     pub table: Table,
+    /// Up to which number of each supplier's changes it has taken.
+    pub cursors: List<Cursor>,
 }
 
-/// What an event makes of a zone: it stays the same, or has this table from then on.
+/// What an event makes of a zone: it stays the same, or becomes another.
 #[derive(Drop)]
 pub enum Acted {
     Same(Answer),
-    Wrote(Table, Answer),
+    Became(Zone, Answer),
 }
 
 #[tactic(auto, unfolding(crate::specs::Zone::property))]
@@ -156,6 +167,24 @@ impl Zone {
             host,
             apex,
             table,
+            cursors: List::new(alloc),
+        })
+    }
+
+    /// A zone that is copied from another replica: nothing is here yet.
+    ///
+    /// # Errors
+    /// `OutOfMemory`.
+    #[tactic(auto, unfolding(crate::specs::Zone::joined))]
+    pub fn join(alloc: Global, id: ReplicaId, host: Name, apex: Name) -> Result<Zone, OutOfMemory>
+        ensures { IfOk result (λ zone. zone ≡ joined id host apex) }
+    {
+        Ok(Zone {
+            id,
+            host,
+            apex: apex.lower(),
+            table: Table::empty(alloc)?,
+            cursors: List::new(alloc),
         })
     }
 
@@ -197,8 +226,14 @@ impl Zone {
         }
         let mut batch = List::new(alloc);
         batch.push(Write { key, stamp, value })?;
-        let table = self.table.put(&batch)?;
-        Ok(Acted::Wrote(table, Answer::Admin(AdminDone::Written { units: 1 })))
+        let after = Zone {
+            id: self.id,
+            host: self.host,
+            apex: self.apex,
+            table: self.table.put(&batch)?,
+            cursors: self.cursors.copy(alloc)?,
+        };
+        Ok(Acted::Became(after, Answer::Admin(AdminDone::Written { units: 1 })))
     }
 
     #[tactic(auto, unfolding(crate::specs::Zone::stamp_for))]
@@ -256,6 +291,98 @@ impl Zone {
         )
     }
 
+    /// Whether a write has a greater stamp than the unit of its key here, or its key isn't here.
+    #[tactic(auto, unfolding(crate::specs::Merge::wins))]
+    fn wins(&self, write: &Write) -> bool
+        ensures { result ≡ wins self.now.table.0 write.now }
+    {
+        match self.table.find(&write.key) {
+            None => true,
+            Some(unit) => write.stamp.cmp(&unit.stamp).is_gt(),
+        }
+    }
+
+    /// Those of the writes that win, in their order.
+    #[tactic(auto, unfolding(crate::specs::Merge::winners))]
+    fn winners(&self, alloc: Global, writes: &[Write]) -> Result<List<Write>, OutOfMemory>
+        ensures { IfOk result (λ won. won ≡ winners self.now.table.0 writes.now) }
+    {
+        let mut won = List::new(alloc);
+        for write in writes {
+            if self.wins(write) {
+                won.push(write.copy(alloc)?)?;
+            }
+        }
+        Ok(won)
+    }
+
+    /// The zone after these writes of a supplier, whose changes it has then taken up to a number.
+    fn moved(
+        &self,
+        alloc: Global,
+        changes: &Changes,
+        won: &List<Write>,
+    ) -> Result<Zone, OutOfMemory>
+        requires keys { KeysDiffer won.now }
+        requires values { AllByRecursion (λ write. IsTrue (fits write.value)) won.now }
+        requires count { self.now.table.1 + length won.now ≤ 2 ^ 63 }
+        ensures { IfOk result (λ zone. zone ≡ moved self.now changes.now won.now) }
+    {
+        let seen = cursor_of(changes.supplier, self.cursors.as_slice()).max(changes.to);
+        Ok(Zone {
+            id: self.id,
+            host: self.host,
+            apex: self.apex,
+            table: self.table.put(won)?,
+            cursors: with_cursor(alloc, changes.supplier, seen, &self.cursors)?,
+        })
+    }
+
+    /// Takes what another replica sent: nothing where changes are missing before these, else the newer of the units.
+    ///
+    /// # Errors
+    /// `OutOfMemory`.
+    #[tactic(auto, unfolding(crate::specs::Zone::merge_step))]
+    pub fn merge(&self, alloc: Global, changes: &Changes) -> Result<Acted, OutOfMemory>
+        ensures { IfOk result (λ acted. Acts acted self.now (merge_step self.now changes.now)) }
+    {
+        let cursor = cursor_of(changes.supplier, self.cursors.as_slice());
+        if cursor < changes.from {
+            return Ok(Acted::Same(Answer::Gap {
+                cursor,
+                from: changes.from,
+            }));
+        }
+        let won = self.winners(alloc, changes.units.as_slice())?;
+        let count = won.len() as u64;
+        if count > MAX_CHANGES || self.table.top() > MAX_CHANGES - count {
+            return Ok(Acted::Same(Answer::Refused(Limit::Changes)));
+        }
+        let after = self.moved(alloc, changes, &won)?;
+        Ok(Acted::Became(after, Answer::Merged { won: count as u32 }))
+    }
+
+    /// What the zone asks of a supplier: its changes above the cursor.
+    pub fn pull(&self, supplier: ReplicaId) -> Packet
+        ensures { result ≡ pull_of self.now supplier }
+    {
+        Packet::Pull {
+            zone: self.apex,
+            from_id: self.id,
+            after: cursor_of(supplier, self.cursors.as_slice()),
+        }
+    }
+
+    /// The zone's changes above a number, as a packet.
+    ///
+    /// # Errors
+    /// `OutOfMemory`.
+    pub fn changes(&self, alloc: Global, after: u64) -> Result<Packet, OutOfMemory>
+        ensures { IfOk result (λ packet. packet ≡ Packet.Changes (changes_of self.now.table self.now.apex self.now.id after)) }
+    {
+        Ok(Packet::Changes(changes_of(alloc, &self.table, self.apex, self.id, after)?))
+    }
+
     /// What an event makes of the zone.
     ///
     /// # Errors
@@ -264,7 +391,16 @@ impl Zone {
     pub fn act(&self, alloc: Global, event: &Event) -> Result<Acted, OutOfMemory>
         ensures { IfOk result (λ acted. Acts acted self.now (zstep self.now event.now)) }
     {
-        let Event::Admin { cmd, moment } = event;
+        match event {
+            Event::Admin { cmd, moment } => self.admin(alloc, cmd, *moment),
+            Event::Merge { changes } => self.merge(alloc, changes),
+        }
+    }
+
+    #[tactic(auto, unfolding(crate::specs::Zone::admin_step))]
+    fn admin(&self, alloc: Global, cmd: &AdminCmd, moment: Moment) -> Result<Acted, OutOfMemory>
+        ensures { IfOk result (λ acted. Acts acted self.now (admin_step self.now cmd.now moment)) }
+    {
         let AdminCmd::Add {
             name,
             ttl,
@@ -276,6 +412,6 @@ impl Zone {
             return Ok(Acted::Same(Answer::Admin(AdminDone::NotInZone)));
         }
         let row = Record::make(alloc, *rtype, *ttl, *hour, rdata.as_slice())?;
-        self.add(alloc, name, row, *moment)
+        self.add(alloc, name, row, moment)
     }
 }

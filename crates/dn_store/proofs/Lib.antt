@@ -5,3 +5,4 @@ pub mod Folded
 pub mod Growing
 pub mod Lower
 pub mod Found
+pub mod Runs

@@ -1,9 +1,10 @@
--- What stays of a table as a unit is put into its place: the order of the keys and the numbers.
+-- What stays of a table as a unit is put into its place: the order of the keys, the numbers and the sizes.
 use Rattle.std.proofs.Common.{◌≡◌, ◌≢◌, ℕ, suc, subst, ◌+◌, ◌≤◌, Bool, true, false, List, [], ◌∷◌, length, map, reverse, refl, ap, sym, ◌∙◌, arith, cond, Option, Some}
 use Rattle.std.proofs.lemmas.Cmp.{nat_cmp_total, lists_total, on_total, tied_itself}
 use Rattle.std.proofs.lemmas.Bool.{false≢true}
 use Rattle.std.specs.Cmp.{IsTotalOrder}
 use Rattle.std.specs.List.{AllByRecursion}
+use Rattle.std.specs.Prelude.{IsTrue}
 use Rattle.std.specs.Ordering.{is_gt, match_ordering, ordering_reverse}
 use Rattle.std.specs.declared.cmp.Ordering.{Ordering}
 use Rattle.std.specs.declared.cmp.Ordering.TheVariants.{Less, Equal, Greater}
@@ -12,7 +13,7 @@ use Rattle.dn_store.specs.declared.unit.Unit as units
 use Rattle.dn_store.specs.declared.unit.Write.{Write}
 use Rattle.dn_store.specs.declared.unit.UnitKey.{UnitKey}
 use Rattle.dn_store.specs.declared.unit.UnitKey.TheVariants.{Props, Node}
-use Rattle.dn_store.specs.Value.{key_order}
+use Rattle.dn_store.specs.Value.{fits, key_order}
 use Rattle.dn_store.specs.Table.{Differ, IsLeastAbove, IsNumber, IsTable, KeysGrow, is_above, numbered, placed, taken, unit_above}
 
 -- ---- the order of keys
@@ -62,7 +63,7 @@ grow_head : (unit : units.Unit) (list : List units.Unit) → KeysGrow (unit ∷ 
 grow_head unit [] grow = tt
 grow_head unit (next ∷ rest) grow = grow.0
 
-grow_tail : (unit : units.Unit) (list : List units.Unit) → KeysGrow (unit ∷ list) → KeysGrow list
+pub grow_tail : (unit : units.Unit) (list : List units.Unit) → KeysGrow (unit ∷ list) → KeysGrow list
 grow_tail unit [] grow = tt
 grow_tail unit (next ∷ rest) grow = grow.1
 
@@ -143,22 +144,24 @@ fresh_in top number (unit ∷ list) is all = (fresh_one top number unit.usn is a
 
 -- ---- a table stays a table
 
-pub table_placed : (top : ℕ) (unit : units.Unit) (list : List units.Unit) → unit.usn ≡ top + 1 → IsTable list top → IsTable (placed unit list) (top + 1)
-table_placed top unit list is table =
+pub table_placed : (top : ℕ) (unit : units.Unit) (list : List units.Unit) → unit.usn ≡ top + 1 → IsTrue (fits unit.value) → IsTable list top → IsTable (placed unit list) (top + 1)
+table_placed top unit list is fit table =
     let holds : IsNumber (top + 1) unit.usn = (omega arith, omega arith) in
     record {
       ordered = grow_placed unit list table.ordered;
       numbers = all_placed (λ one. IsNumber (top + 1) one.usn) unit list holds (higher top list table.numbers);
       differ = differ_placed unit list (fresh_in top unit.usn list is table.numbers) table.differ;
+      fitting = all_placed (λ one. IsTrue (fits one.value)) unit list fit table.fitting;
     }
 
 -- after a whole batch
-pub table_taken : (list : List units.Unit) (top : ℕ) (batch : List Write) → IsTable list top → IsTable (taken list top batch) (top + length batch)
-table_taken list top [] table = let e : top ≡ top + 0 = omega arith in subst (IsTable list) e table
-table_taken list top (write ∷ batch) table =
+pub table_taken : (list : List units.Unit) (top : ℕ) (batch : List Write) → AllByRecursion (λ write. IsTrue (fits write.value)) batch → IsTable list top
+    → IsTable (taken list top batch) (top + length batch)
+table_taken list top [] fit table = let e : top ≡ top + 0 = omega arith in subst (IsTable list) e table
+table_taken list top (write ∷ batch) fit table =
     let e : (top + 1) + length batch ≡ top + suc (length batch) = omega arith in
     subst (IsTable (taken (placed (numbered (top + 1) write) list) (top + 1) batch)) e
-    (table_taken (placed (numbered (top + 1) write) list) (top + 1) batch (table_placed top (numbered (top + 1) write) list refl table))
+    (table_taken (placed (numbered (top + 1) write) list) (top + 1) batch fit.1 (table_placed top (numbered (top + 1) write) list refl fit.0 table))
 
 -- ---- the first unit above a key is the least
 
@@ -166,7 +169,7 @@ after_first : (unit next : units.Unit) (list : List units.Unit) → key_order un
 after_first unit next [] is all = tt
 after_first unit next (later ∷ list) is all = (key_trans unit.key next.key later.key is all.0, after_first unit next list is all.1)
 
-after_all : (unit : units.Unit) (list : List units.Unit) → KeysGrow (unit ∷ list) → AllByRecursion (λ later. key_order unit.key later.key ≡ Less) list
+pub after_all : (unit : units.Unit) (list : List units.Unit) → KeysGrow (unit ∷ list) → AllByRecursion (λ later. key_order unit.key later.key ≡ Less) list
 after_all unit [] grow = tt
 after_all unit (next ∷ rest) grow = (grow.0, after_first unit next rest grow.0 (after_all next rest grow.1))
 

@@ -1,5 +1,5 @@
 -- The units of a zone on one replica, in the order of their keys, and the writes that they took.
-use Rattle.std.specs.Prelude.{◌≡◌, ◌≢◌, ℕ, ◌+◌, ◌≤◌, Bool, true, false, ◌-◌, ◌==◌, nat_lt, nat_le, if◌then◌else◌, List, [], ◌∷◌, length, filter, find, map, Option, None, Some, IsSomeAnd}
+use Rattle.std.specs.Prelude.{◌≡◌, ◌≢◌, ℕ, ◌+◌, ◌≤◌, Bool, true, false, ◌-◌, ◌==◌, nat_lt, nat_le, if◌then◌else◌, List, [], ◌∷◌, length, filter, find, map, Option, None, Some, IsSomeAnd, IsTrue}
 use Rattle.std.specs.List.{AllByRecursion}
 use Rattle.std.specs.Ordering.{is_eq, is_gt, is_lt, match_ordering}
 use Rattle.std.specs.declared.cmp.Ordering.TheVariants.{Less}
@@ -9,11 +9,15 @@ use Rattle.dn_store.specs.declared.unit.Write.{Write}
 use Rattle.dn_store.specs.declared.unit.UnitKey.{UnitKey}
 use Rattle.dn_store.specs.declared.unit.UnitKey.TheVariants.{Props, Node}
 use Rattle.dn_store.specs.declared.table.ChangeRun.{ChangeRun}
-use Rattle.dn_store.specs.Value.{key_order, value_size}
+use Rattle.dn_store.specs.Value.{fits, key_order, value_size}
 
 -- a write under its number
 abbrev pub numbered : ℕ → Write → units.Unit
 numbered number write = record { usn = number; key = write.key; stamp = write.stamp; value = write.value }
+
+-- a unit without its number
+abbrev pub write_of : units.Unit → Write
+write_of unit = record { key = unit.key; stamp = unit.stamp; value = unit.value }
 
 -- the unit in its place among units in the order of keys; it replaces the one of its key
 abbrev pub placed : units.Unit → List units.Unit → List units.Unit
@@ -60,11 +64,12 @@ Differ (number ∷ numbers) = AllByRecursion (λ other. other ≢ number) number
 abbrev pub IsNumber : ℕ → ℕ → Type 0
 IsNumber top number = (1 ≤ number) × (number ≤ top)
 
--- a table: units in the order of their keys, under different numbers from 1 to the change count
+-- a table: units in the order of their keys, under different numbers from 1 to the change count, of values that fit
 pub record IsTable (list : List units.Unit) (top : ℕ) : Type 0 where
   pub ordered : KeysGrow list
   pub numbers : AllByRecursion (λ unit. IsNumber top unit.usn) list
   pub differ : Differ (map (λ unit. unit.usn) list)
+  pub fitting : AllByRecursion (λ unit. IsTrue (fits unit.value)) list
 
 -- the keys of a list of writes differ
 abbrev pub KeysDiffer : List Write → Type 0

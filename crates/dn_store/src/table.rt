@@ -1,7 +1,7 @@
-ghost use Rattle.std.specs.Prelude.{◌≡◌, ◌≤◌, ◌+◌, ◌^◌, ℕ, [], true, false, length, option_copied, IfOk, IsSomeAnd, IsTrue};
+ghost use Rattle.std.specs.Prelude.{◌≡◌, ◌≤◌, ◌+◌, ◌^◌, ℕ, [], true, false, length, map, option_copied, IfOk, IsSomeAnd, IsTrue};
 ghost use Rattle.std.specs.List.{AllByRecursion};
 ghost use Rattle.std.specs.Ordering.{is_gt};
-ghost use Rattle.dn_store.specs.Table.{AreWritten, IsLeastAbove, IsNotWritten, IsTable, KeysDiffer, run_after, taken, unit_above, unit_at};
+ghost use Rattle.dn_store.specs.Table.{AreWritten, IsLeastAbove, IsNotWritten, IsTable, KeysDiffer, run_after, taken, unit_above, unit_at, write_of};
 ghost use Rattle.dn_store.specs.declared.unit.UnitKey.{UnitKey};
 ghost use Rattle.dn_store.specs.Value.{fits, key_order};
 
@@ -116,7 +116,10 @@ impl Table {
     pub fn changes_after(&self, usn: u64, room: usize) -> Result<ChangeRun, OutOfMemory>
         requires usn { usn ≤ self.now.1 }
         requires room { 61000 ≤ room }
-        ensures { IfOk result (λ run. run ≡ run_after usn room self.now.1 self.now.0) }
+        ensures run { IfOk result (λ run. run ≡ run_after usn room self.now.1 self.now.0) }
+        // So the units, taken as writes, make a batch for `put`: their keys differ and their values fit.
+        ensures differ { IfOk result (λ run. KeysDiffer (map write_of run.units)) }
+        ensures fit { IfOk result (λ run. AllByRecursion (λ write. IsTrue (fits write.value)) (map write_of run.units)) }
     {
         let sorted = newer_units(self.alloc, usn, self.units.as_slice())?;
         let front = front_of(self.alloc, room, sorted.as_slice())?;

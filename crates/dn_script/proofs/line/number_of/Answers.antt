@@ -1,8 +1,8 @@
 use Rattle.std.proofs.Common.{sym, arith}
 use Rattle.dn_script.proofs.WordsParts.{number_bounded}
-use Rattle.dn_script.proofs.line.ttl_of.Goals as goal
+use Rattle.dn_script.proofs.line.number_of.Goals as goal
 
 pub overflow_cast-result : goal.overflow_cast-result
 overflow_cast-result c =
-    let bound = number_bounded 4294967295 c.args.word.now c.in-Some.seconds (sym (rw c.from.ensures at c.in-Some.ensures)) in
+    let bound = number_bounded 4294967295 c.args.word.now c.in-Some.number (sym (rw c.from.ensures at c.in-Some.ensures)) in
     omega arith

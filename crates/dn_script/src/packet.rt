@@ -1,0 +1,149 @@
+ghost use Rattle.std.specs.Prelude.{◌≡◌, ◌<◌, find, length, map, option_copied, position, IfOk, IfSome};
+ghost use Rattle.dn_store.specs.Table.{write_of};
+ghost use Rattle.dn_script.specs.Merge.{changes_of, cursor_of, is_of_supplier, with_cursor};
+
+use dn_io::{Duplicate, List, OutOfMemory};
+use dn_name::Name;
+use dn_store::{ReplicaId, Table, Unit, Write};
+use std::alloc::Global;
+use std::marker::Model;
+
+/// Up to which number of a supplier's changes a zone has taken.
+#[derive(Clone, Copy)]
+pub struct Cursor {
+    pub supplier: ReplicaId,
+    pub seen: u64,
+}
+
+impl Duplicate for Cursor {
+    fn copy(&self, _alloc: Global) -> Result<Self, OutOfMemory> {
+        Ok(*self)
+    }
+}
+
+/// The changes of a zone on its supplier above one number and up to another.
+#[derive(Drop)]
+pub struct Changes {
+    /// The zone's apex, in lower case.
+    pub zone: Name,
+    pub supplier: ReplicaId,
+    pub from: u64,
+    pub to: u64,
+    pub units: List<Write>,
+}
+
+impl Model for Changes {
+    ghost use Rattle.dn_script.specs.Sent.{CanBeTaken, Run};
+
+    ghost Value = { Run };
+
+    ghost view = { λ it. record { zone = it.zone; supplier = it.supplier; from = it.from; to = it.to; units = it.units } };
+
+    ghost invariant = { λ it. CanBeTaken it.units };
+}
+
+/// What replicas send each other.
+#[derive(Drop)]
+pub enum Packet {
+    /// Asks for the changes of a zone above a number.
+    Pull {
+        zone: Name,
+        from_id: ReplicaId,
+        after: u64,
+    },
+    Changes(Changes),
+}
+
+/// A packet that was sent, with its receiver.
+#[derive(Drop)]
+pub struct Post {
+    pub to: ReplicaId,
+    pub packet: Packet,
+}
+
+/// The most bytes of units in a packet of changes.
+const CHANGES_ROOM: usize = 64_000;
+
+fn cursor_among<'a>(supplier: ReplicaId, cursors: &'a [Cursor]) -> Option<&'a Cursor>
+    ensures { option_copied result ≡ find (is_of_supplier supplier) cursors.now }
+{
+    cursors.iter().find(|cursor| cursor.supplier == supplier)
+}
+
+/// The cursor of a supplier, 0 where there is none.
+#[tactic(auto, unfolding(crate::specs::Merge::cursor_of))]
+pub fn cursor_of(supplier: ReplicaId, cursors: &[Cursor]) -> u64
+    ensures { result ≡ cursor_of supplier cursors.now }
+{
+    match cursor_among(supplier, cursors) {
+        Some(cursor) => cursor.seen,
+        None => 0,
+    }
+}
+
+/// The cursors after one moved to a number.
+#[tactic(auto, unfolding(crate::specs::Merge::with_cursor))]
+pub fn with_cursor(
+    alloc: Global,
+    supplier: ReplicaId,
+    seen: u64,
+    cursors: &List<Cursor>,
+) -> Result<List<Cursor>, OutOfMemory>
+    ensures { IfOk result (λ moved. moved ≡ with_cursor supplier seen cursors.now) }
+{
+    let mut moved = cursors.copy(alloc)?;
+    let cursor = Cursor { supplier, seen };
+    match place_of(supplier, cursors.as_slice()) {
+        Some(at) => moved.set(at, cursor),
+        None => moved.push(cursor)?,
+    }
+    Ok(moved)
+}
+
+/// The place of a supplier's cursor.
+fn place_of(supplier: ReplicaId, cursors: &[Cursor]) -> Option<usize>
+    ensures place { result ≡ position (is_of_supplier supplier) cursors.now }
+    ensures within { IfSome result (λ at. at < length cursors.now) }
+{
+    cursors
+        .iter()
+        .position(|cursor| cursor.supplier == supplier)
+}
+
+/// The units as writes, in memory of their own.
+fn writes_of(alloc: Global, units: &[Unit]) -> Result<List<Write>, OutOfMemory>
+    ensures { IfOk result (λ writes. writes ≡ map write_of units.now) }
+{
+    let mut writes = List::new(alloc);
+    for unit in units {
+        writes.push(Write {
+            key: unit.key,
+            stamp: unit.stamp,
+            value: unit.value.copy(alloc)?,
+        })?;
+    }
+    Ok(writes)
+}
+
+/// The changes of a table above a number, as many as there is room for.
+#[tactic(auto, unfolding(crate::specs::Merge::changes_of))]
+pub fn changes_of(
+    alloc: Global,
+    table: &Table,
+    apex: Name,
+    supplier: ReplicaId,
+    after: u64,
+) -> Result<Changes, OutOfMemory>
+    ensures { IfOk result (λ changes. changes ≡ changes_of table.now apex supplier after) }
+{
+    let from = after.min(table.top());
+    let run = table.changes_after(from, CHANGES_ROOM)?;
+    let units = writes_of(alloc, run.units.as_slice())?;
+    Ok(Changes {
+        zone: apex,
+        supplier,
+        from,
+        to: run.to,
+        units,
+    })
+}
