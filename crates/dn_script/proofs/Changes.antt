@@ -13,8 +13,8 @@ use Rattle.dn_script.specs.declared.event.AdminDone.TheVariants.{Unchanged}
 use Rattle.dn_script.specs.declared.event.Answer.TheVariants.{Admin}
 use Rattle.dn_script.specs.declared.zone.Zone.{Zone}
 use Rattle.dn_script.specs.Added.{Adds}
-use Rattle.dn_script.specs.Node.{bars, is_same_set, is_there_as, placed_row, rows_at, with_added, without_aliases}
-use Rattle.dn_script.specs.Zone.{add_wanted, node_change, node_value, stamped, with_table, written}
+use Rattle.dn_script.specs.Node.{bars, is_same_set, is_there_as, node_value, placed_row, rows_at, with_added, without_aliases}
+use Rattle.dn_script.specs.Zone.{add_wanted, node_change, stamped, with_table, written}
 use Rattle.dn_script.proofs.NodeSets.{same_set_self}
 
 -- a list that has a first record

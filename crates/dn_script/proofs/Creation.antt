@@ -1,10 +1,11 @@
 -- What a new zone holds fits.
 use Rattle.std.proofs.Common.{◌≡◌, List, refl, sym, subst}
 use Rattle.std.specs.Prelude.{IsTrue}
-use Rattle.dn_store.specs.declared.record.Property.{Property}
+use Rattle.dn_property.specs.declared.property.Property.{Property}
 use Rattle.dn_store.specs.declared.unit.UnitValue.TheVariants.{Props}
 use Rattle.dn_store.specs.Value.{fits}
-use Rattle.dn_script.specs.Zone.{first_properties, property}
+use Rattle.dn_script.specs.Settings.{property}
+use Rattle.dn_script.specs.Zone.{first_properties}
 
 first_fit : IsTrue (fits (Props first_properties))
 unfolding first_properties property

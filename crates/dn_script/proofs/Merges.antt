@@ -1,7 +1,7 @@
 -- What a merge at one zone does to the list of a world's zones.
 use Rattle.std.proofs.Common.{◌≡◌, ℕ, List, Some, refl, sym}
 use Rattle.std.specs.Prelude.{position, slice_get, slice_set}
-use Rattle.dn_store.specs.declared.stamp.ReplicaId.{ReplicaId}
+use Rattle.dn_stamp.specs.declared.stamp.ReplicaId.{ReplicaId}
 use Rattle.dn_script.specs.declared.event.Answer.{Answer}
 use Rattle.dn_script.specs.declared.packet.Changes.{Changes}
 use Rattle.dn_script.specs.declared.world.WorldAnswer.TheVariants as answers

@@ -23,7 +23,7 @@ below_later first (next ∷ rest) zero unit grow is =
 below_later first (next ∷ rest) (suc at) unit grow is =
     key_total.trans first.key next.key unit.key grow.0 (below_later next rest at unit grow.1 is)
 
-not_above : (first unit : units.Unit) → key_order first.key unit.key ≡ Less → is_lt (key_order unit.key first.key) ≡ false
+pub not_above : (first unit : units.Unit) → key_order first.key unit.key ≡ Less → is_lt (key_order unit.key first.key) ≡ false
 not_above first unit less = ap is_lt (key_total.antisymm unit.key first.key ∙ ap ordering_reverse less)
 
 above_first : (first : units.Unit) (rest : List units.Unit) → KeysGrow (first ∷ rest) → unit_above (Some first.key) rest ≡ slice_get rest 0

@@ -1,6 +1,6 @@
 -- What a replica replies to a question.
 use Rattle.std.specs.Prelude.{ℕ, ◌+◌, ◌%◌, ◌^◌, List, Option, None, Some}
-use Rattle.dn_store.specs.declared.stamp.ReplicaId.{ReplicaId}
+use Rattle.dn_stamp.specs.declared.stamp.ReplicaId.{ReplicaId}
 use Rattle.dn_script.specs.declared.reply.Reply.{Reply}
 use Rattle.dn_script.specs.declared.world.World.{World}
 use Rattle.dn_script.specs.declared.zone.Zone.{Zone}

@@ -1,5 +1,6 @@
 pub mod Acted
 pub mod Added
+pub mod Aging
 pub mod Alike
 pub mod Answer
 pub mod Ask
@@ -8,15 +9,19 @@ pub mod GlueTurn
 pub mod Line
 pub mod Merge
 pub mod Merges
+pub mod Moments
 pub mod Node
 pub mod NodePlaces
 pub mod Numbers
+pub mod Pass
+pub mod Passes
 pub mod Play
 pub mod Print
 pub mod PrintReply
 pub mod Rows
 pub mod Run
 pub mod Sent
+pub mod Settings
 pub mod Stepped
 pub mod Words
 pub mod World

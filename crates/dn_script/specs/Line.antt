@@ -2,7 +2,7 @@
 use Rattle.std.specs.Prelude.{ℕ, ◌-◌, ◌^◌, Bool, ◌||◌, nat_le, if◌then◌else◌, List, [], ◌∷◌, codes, Option, None, Some}
 use Rattle.dn_name.specs.Text.{name_of_text}
 use Rattle.dn_script.specs.declared.event.AdminCmd.{AdminCmd}
-use Rattle.dn_script.specs.declared.event.AdminCmd.TheVariants.{Add}
+use Rattle.dn_script.specs.declared.event.AdminCmd.TheVariants.{Add, AgingOn, AgingOff, NoRefresh, Refresh}
 use Rattle.dn_script.specs.declared.line.ScriptLine.{ScriptLine}
 use Rattle.dn_script.specs.declared.line.ScriptLine.TheVariants as lines
 use Rattle.dn_script.specs.Words.{◌>>=◌, address_of, id_of, is_replica_name, is_word, number_within}
@@ -58,23 +58,56 @@ at_line (ticks ∷ []) = do
   Some (lines.At moment)
 at_line words = None
 
--- the command that adds an address at a name; such a record doesn't age
-unfoldable pub address_command : List ℕ → List ℕ → List ℕ → Option AdminCmd
-address_command name ttl address = do
+-- the command that adds an address at a name, with this hour as its time stamp
+unfoldable pub address_command : List ℕ → List ℕ → List ℕ → ℕ → Option AdminCmd
+address_command name ttl address hour = do
   its_name ← name_word name
   its_ttl ← number_within 4294967295 ttl
   rdata ← address_of address
-  Some (Add its_name its_ttl 1 rdata 0)
+  Some (Add its_name its_ttl 1 rdata hour)
 
--- `add NAME TTL TYPE DATA`
+-- `hour H`, or nothing for a record that doesn't age
+unfoldable pub hour_words : List (List ℕ) → Option ℕ
+hour_words [] = Some 0
+hour_words (word ∷ []) = None
+hour_words (word ∷ hour ∷ []) = if is_word word (codes "hour") then number_within 4294967295 hour else None
+hour_words (word ∷ hour ∷ next ∷ rest) = None
+
+-- `add NAME TTL TYPE DATA`, with or without `hour H`
 unfoldable pub add_of : List (List ℕ) → Option AdminCmd
-add_of (name ∷ ttl ∷ rtype ∷ address ∷ []) = if is_type_a rtype then address_command name ttl address else None
+add_of (name ∷ ttl ∷ rtype ∷ address ∷ rest) = do
+  hour ← if is_type_a rtype then hour_words rest else None
+  address_command name ttl address hour
 add_of words = None
+
+-- `on` or `off`, behind `aging`
+unfoldable pub aging_of : List (List ℕ) → Option AdminCmd
+aging_of (word ∷ []) =
+    if is_word word (codes "on") then Some AgingOn else (if is_word word (codes "off") then Some AgingOff else None)
+aging_of words = None
+
+-- the hours of an interval, at most 87,600
+unfoldable pub interval_of : List (List ℕ) → Option ℕ
+interval_of (hours ∷ []) = number_within 87600 hours
+interval_of words = None
+
+abbrev pub interval_named : List ℕ → ℕ → Option AdminCmd
+interval_named verb hours =
+    if is_word verb (codes "norefresh") then Some (NoRefresh hours)
+    else (if is_word verb (codes "refresh") then Some (Refresh hours) else None)
+
+-- `norefresh H` or `refresh H`
+unfoldable pub interval_command : List ℕ → List (List ℕ) → Option AdminCmd
+interval_command verb words = do
+  hours ← interval_of words
+  interval_named verb hours
 
 -- a command of administration
 unfoldable pub command_of : List (List ℕ) → Option AdminCmd
 command_of [] = None
-command_of (verb ∷ words) = if is_word verb (codes "add") then add_of words else None
+command_of (verb ∷ words) =
+    if is_word verb (codes "add") then add_of words
+    else (if is_word verb (codes "aging") then aging_of words else interval_command verb words)
 
 -- `admin R Z COMMAND`
 unfoldable pub admin_line : List (List ℕ) → Option ScriptLine
@@ -105,11 +138,19 @@ deliver_line (number ∷ []) = do
   Some (lines.Deliver packet)
 deliver_line words = None
 
--- the lines about packets
-unfoldable pub packet_verb : List ℕ → List (List ℕ) → Option ScriptLine
-packet_verb verb words =
+-- `pass R Z`
+unfoldable pub pass_line : List (List ℕ) → Option ScriptLine
+pass_line (replica ∷ apex ∷ []) = do
+  its_apex ← name_word apex
+  Some (lines.Pass replica its_apex)
+pass_line words = None
+
+-- the lines about packets and passes
+unfoldable pub event_line : List ℕ → List (List ℕ) → Option ScriptLine
+event_line verb words =
     if is_word verb (codes "pull") then pull_line words
-    else (if is_word verb (codes "deliver") then deliver_line words else None)
+    else (if is_word verb (codes "deliver") then deliver_line words
+    else (if is_word verb (codes "pass") then pass_line words else None))
 
 -- a line of a script, by its words
 unfoldable pub line_of : List (List ℕ) → Option ScriptLine
@@ -119,4 +160,4 @@ line_of (verb ∷ words) =
     else (if is_word verb (codes "zone") then zone_line words
     else (if is_word verb (codes "at") then at_line words
     else (if is_word verb (codes "admin") then admin_line words
-    else (if is_word verb (codes "ask") then ask_line words else packet_verb verb words))))
+    else (if is_word verb (codes "ask") then ask_line words else event_line verb words))))

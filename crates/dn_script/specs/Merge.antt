@@ -1,11 +1,9 @@
 -- Replication: what a replica asks of another, what it is sent, and what a zone takes of it.
 use Rattle.std.specs.Prelude.{ℕ, min, Bool, true, nat_eq, List, [], ◌∷◌, ◌++◌, filter, find, map, position, slice_set, Option, None, Some}
-use Rattle.std.specs.Ordering.{is_gt, nat_cmp, ordering_then}
-use Rattle.std.specs.declared.cmp.Ordering.{Ordering}
-use Rattle.std.specs.Cmp.Lexicographic.{slice_cmp}
+use Rattle.std.specs.Ordering.{is_gt}
 use lib.Pointwise.{pointwise}
-use Rattle.dn_store.specs.declared.stamp.ReplicaId.{ReplicaId}
-use Rattle.dn_store.specs.declared.stamp.Stamp.{Stamp}
+use Rattle.dn_stamp.specs.declared.stamp.ReplicaId.{ReplicaId}
+use Rattle.dn_stamp.specs.Stamp.{stamp_order}
 use Rattle.dn_store.specs.declared.unit.Unit as units
 use Rattle.dn_store.specs.declared.unit.Write.{Write}
 use Rattle.dn_store.specs.Table.{run_after, unit_at, write_of}
@@ -38,12 +36,6 @@ with_cursor supplier seen cursors =
     cursor_at (position (is_of_supplier supplier) cursors) (record { supplier = supplier; seen = seen }) cursors
 
 -- ---- which of two writes is newer
-
--- stamps by version, then second, then replica
-abbrev pub stamp_order : Stamp → Stamp → Ordering
-stamp_order left right =
-    ordering_then (nat_cmp left.version right.version)
-    (ordering_then (nat_cmp left.seconds right.seconds) (slice_cmp nat_cmp left.id.0 right.id.0))
 
 abbrev pub is_newer_than : Write → Option units.Unit → Bool
 is_newer_than write None = true

@@ -1,6 +1,6 @@
 -- What a merge does to the list of a world's zones.
 use Rattle.std.specs.Prelude.{◌≡◌, List, position}
-use Rattle.dn_store.specs.declared.stamp.ReplicaId.{ReplicaId}
+use Rattle.dn_stamp.specs.declared.stamp.ReplicaId.{ReplicaId}
 use Rattle.dn_script.specs.declared.event.Event.TheVariants.{Merge}
 use Rattle.dn_script.specs.declared.packet.Changes.{Changes}
 use Rattle.dn_script.specs.declared.world.World.{World}

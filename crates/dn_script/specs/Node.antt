@@ -1,5 +1,5 @@
 -- The records of a node, and what adding one makes of them (RFC 2136 3.4.2.2, with the hour that is given).
-use Rattle.std.specs.Prelude.{Bool, not, ◌&&◌, nat_eq, if◌then◌else◌, List, [], ◌∷◌, filter, Option, None, Some}
+use Rattle.std.specs.Prelude.{ℕ, Bool, not, ◌&&◌, nat_eq, if◌then◌else◌, List, [], ◌∷◌, filter, Option, None, Some}
 use Rattle.std.specs.List.{list_all, list_any}
 use Rattle.std.specs.Ordering.{is_eq, match_ordering}
 use lib.Pointwise.{pointwise}
@@ -20,6 +20,11 @@ rows_in Gone = []
 abbrev pub rows_of_unit : Option units.Unit → List Record
 rows_of_unit None = []
 rows_of_unit (Some unit) = rows_in unit.value
+
+-- a node with these records, entombed where there are none
+abbrev pub node_value : List Record → ℕ → UnitValue
+node_value [] ticks = Tombstone ticks
+node_value (row ∷ rows) ticks = Live (row ∷ rows)
 
 -- the records of the node at a key
 unfoldable pub rows_at : UnitKey → List units.Unit → List Record

@@ -18,6 +18,7 @@ use Rattle.dn_script.specs.declared.world.WorldEvent.{WorldEvent}
 use Rattle.dn_script.specs.declared.world.WorldEvent.TheVariants.{Act, Create, Deliver, Join, Pull, Replica}
 use Rattle.dn_script.specs.Ask.{world_reply}
 use Rattle.dn_script.specs.Line.{line_of}
+use Rattle.dn_script.specs.Passes.{whole_pass}
 use Rattle.dn_script.specs.Print.{answer_text, as_line, packet_text}
 use Rattle.dn_script.specs.PrintReply.{reply_text}
 use Rattle.dn_script.specs.Words.{◌>>=◌, does_nothing, words_of}
@@ -38,15 +39,24 @@ number_of script name = position (is_named name) script.names
 abbrev pub Step : Type 0
 Step = Option (Script × List ℕ)
 
+-- the line of output of an answer; none where the event is refused
+unfoldable pub output_of : WorldAnswer → Option (List ℕ)
+output_of world.Made = Some []
+output_of (world.Zone answer) = Some (as_line (answer_text answer))
+output_of (world.Sent packet) = Some (as_line (packet_text packet))
+output_of (world.No why) = None
+
 -- a refused event makes its line invalid
 abbrev pub after_event : Script → World × WorldAnswer → Step
-after_event script (now, world.Made) = Some (record script { world = now }, [])
-after_event script (now, world.Zone answer) = Some (record script { world = now }, as_line (answer_text answer))
-after_event script (now, world.Sent packet) = Some (record script { world = now }, as_line (packet_text packet))
-after_event script (now, world.No why) = None
+after_event script after = do
+  output ← output_of after.1
+  Some (record script { world = after.0 }, output)
 
 unfoldable pub run_event : Script → WorldEvent → Step
 run_event script event = after_event script (wstep script.world event)
+
+unfoldable pub run_pass : Script → ℕ → List (List ℕ) → Step
+run_pass script at apex = after_event script (whole_pass script.world at apex script.moment)
 
 abbrev pub with_name : List ℕ → Script × List ℕ → Script × List ℕ
 with_name name (script, output) = (record script { names = script.names ++ name ∷ [] }, output)
@@ -69,6 +79,9 @@ run_line script (lines.Pull replica supplier apex) = do
   by ← number_of script replica
   of ← number_of script supplier
   run_event script (Pull by of apex)
+run_line script (lines.Pass replica apex) = do
+  at ← number_of script replica
+  run_pass script at apex
 run_line script (lines.Deliver packet) = run_event script (Deliver packet)
 run_line script (lines.At moment) = Some (record script { moment = moment }, [])
 run_line script (lines.Admin replica apex cmd) = do

@@ -7,7 +7,7 @@ use Rattle.dn_script.specs.declared.reply.Rcode.{Rcode}
 use Rattle.dn_script.specs.declared.reply.Rcode.TheVariants.{NoError, FormErr, ServFail, NxDomain, NotImp, Refused, YxDomain, YxRrset, NxRrset, NotAuth, NotZone}
 use Rattle.dn_script.specs.declared.reply.Reply.{Reply}
 use Rattle.dn_script.specs.declared.reply.Rr.{Rr}
-use Rattle.dn_script.specs.Print.{as_line}
+use Rattle.dn_script.specs.Print.{as_line, count_text}
 
 abbrev pub rcode_text : Rcode → List ℕ
 rcode_text NoError = codes "NOERROR"
@@ -96,10 +96,6 @@ row_line row = as_line (row_text row)
 -- the code and the flags of a reply
 unfoldable pub flags_text : Reply → List ℕ
 flags_text reply = codes "status " ++ rcode_text reply.rcode ++ codes " aa " ++ bit reply.aa ++ codes " tc " ++ bit reply.tc
-
--- a count behind what it counts
-unfoldable pub count_text : List ℕ → ℕ → List ℕ
-count_text label count = label ++ decimal count
 
 -- how many rows a reply has
 unfoldable pub counts_text : Reply → List ℕ

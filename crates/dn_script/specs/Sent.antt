@@ -1,7 +1,7 @@
 -- The changes of a zone that one replica sends another.
 use Rattle.std.specs.Prelude.{ℕ, ◌≤◌, List, length, IsTrue}
 use Rattle.std.specs.List.{AllByRecursion}
-use Rattle.dn_store.specs.declared.stamp.ReplicaId.{ReplicaId}
+use Rattle.dn_stamp.specs.declared.stamp.ReplicaId.{ReplicaId}
 use Rattle.dn_store.specs.declared.unit.Write.{Write}
 use Rattle.dn_store.specs.Table.{KeysDiffer}
 use Rattle.dn_store.specs.Value.{fits}

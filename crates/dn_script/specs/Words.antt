@@ -4,7 +4,7 @@ use Rattle.std.specs.List.{list_all, slice_split}
 use Rattle.std.specs.Result.{result_ok}
 use lib.Pointwise.{pointwise}
 use Rattle.hex.specs.Hex.{decode_sized}
-use Rattle.dn_store.specs.declared.stamp.ReplicaId.{ReplicaId}
+use Rattle.dn_stamp.specs.declared.stamp.ReplicaId.{ReplicaId}
 use Rattle.dn_script.specs.declared.bad.Bad.{Bad}
 use Rattle.dn_script.specs.declared.bad.Bad.TheVariants as bad
 

@@ -2,7 +2,7 @@
 use Rattle.std.specs.Prelude.{ℕ, zero, suc, ◌+◌, Bool, ◌&&◌, nat_lt, nat_le, if◌then◌else◌, List, [], ◌∷◌, ◌++◌, length, count_by, filter, find, position, slice_get, slice_set, Option, None, Some}
 use Rattle.std.specs.List.{list_any}
 use Rattle.dn_name.specs.Name.{is_same, is_under}
-use Rattle.dn_store.specs.declared.stamp.ReplicaId.{ReplicaId}
+use Rattle.dn_stamp.specs.declared.stamp.ReplicaId.{ReplicaId}
 use Rattle.dn_script.specs.declared.event.Answer.{Answer}
 use Rattle.dn_script.specs.declared.event.Event.{Event}
 use Rattle.dn_script.specs.declared.world.Replica.{Replica}

@@ -1,11 +1,11 @@
 -- A zone on one replica, and what its events make of it.
-use Rattle.std.specs.Prelude.{ℕ, ◌+◌, ◌/◌, ◌^◌, max, nat_lt, if◌then◌else◌, List, [], ◌∷◌, ◌++◌, length, Option, None, Some}
+use Rattle.std.specs.Prelude.{ℕ, ◌+◌, ◌^◌, max, nat_lt, if◌then◌else◌, List, [], ◌∷◌, ◌++◌, length, Option, None, Some}
 use Rattle.std.specs.List.{list_all}
 use Rattle.dn_name.specs.Name.{is_under, lowered, wire_of}
-use Rattle.dn_store.specs.declared.record.Property.{Property}
+use Rattle.dn_property.specs.declared.property.Property.{Property}
 use Rattle.dn_store.specs.declared.record.Record.{Record}
-use Rattle.dn_store.specs.declared.stamp.ReplicaId.{ReplicaId}
-use Rattle.dn_store.specs.declared.stamp.Stamp.{Stamp}
+use Rattle.dn_stamp.specs.declared.stamp.ReplicaId.{ReplicaId}
+use Rattle.dn_stamp.specs.declared.stamp.Stamp.{Stamp}
 use Rattle.dn_store.specs.declared.unit.Unit as units
 use Rattle.dn_store.specs.declared.unit.UnitKey.{UnitKey}
 use Rattle.dn_store.specs.declared.unit.UnitKey.TheVariants as keys
@@ -14,12 +14,12 @@ use Rattle.dn_store.specs.declared.unit.UnitValue.TheVariants.{Live, Tombstone}
 use Rattle.dn_store.specs.declared.unit.UnitValue.TheVariants as values
 use Rattle.dn_store.specs.declared.unit.Write.{Write}
 use Rattle.dn_store.specs.Record.{made}
-use Rattle.dn_store.specs.Stamp.{first_stamp, next_stamp}
+use Rattle.dn_stamp.specs.Stamp.{first_stamp, next_stamp}
 use Rattle.dn_store.specs.Table.{taken, unit_at}
 use Rattle.dn_store.specs.Value.{fits}
 use Rattle.dn_script.specs.declared.zone.Zone.{Zone}
 use Rattle.dn_script.specs.declared.event.AdminCmd.{AdminCmd}
-use Rattle.dn_script.specs.declared.event.AdminCmd.TheVariants.{Add}
+use Rattle.dn_script.specs.declared.event.AdminCmd.TheVariants.{Add, AgingOn, AgingOff, NoRefresh, Refresh}
 use Rattle.dn_script.specs.declared.event.AdminDone.TheVariants.{Written, Unchanged, NotInZone}
 use Rattle.dn_script.specs.declared.event.Answer.{Answer}
 use Rattle.dn_script.specs.declared.event.Answer.TheVariants as answers
@@ -31,11 +31,15 @@ use Rattle.dn_script.specs.declared.event.Limit.TheVariants as limits
 use Rattle.dn_script.specs.declared.packet.Changes.{Changes}
 use Rattle.dn_script.specs.Merge.{cursor_of, winners, with_cursor}
 use Rattle.dn_script.specs.Words.{◌>>=◌}
-use Rattle.dn_script.specs.Node.{is_same_set, rows_at, with_added}
-
--- whole seconds of a moment
-abbrev pub seconds_of : ℕ → ℕ
-seconds_of ticks = ticks / 10000000
+use Rattle.dn_script.specs.Moments.{hour_of, seconds_of}
+use Rattle.dn_script.specs.Node.{is_same_set, node_value, rows_at, with_added}
+use Rattle.dn_script.specs.declared.pass.Pass.{Pass}
+use Rattle.dn_script.specs.declared.pass.StepPlan.{StepPlan}
+use Rattle.dn_script.specs.declared.pass.StepPlan.TheVariants as plans
+use Rattle.dn_script.specs.Pass.{begun, step_plan}
+use Rattle.dn_script.specs.Settings.{all_hold, properties_of, property, settings_of, with_settings}
+use Rattle.dn_script.specs.declared.settings.Setting.{Setting}
+use Rattle.dn_property.specs.Rules.{rules_of}
 
 -- a value that is to be written under a key
 pub record Wanted : Type 0 where
@@ -84,11 +88,6 @@ written wanted id ticks table =
     if list_all (λ one. fits one.value) wanted then when_stamped table (stamped table.0 id (seconds_of ticks) wanted)
     else (table, Passed NodeSize)
 
--- a node with these records, entombed where there are none
-abbrev pub node_value : List Record → ℕ → UnitValue
-node_value [] ticks = Tombstone ticks
-node_value (row ∷ rows) ticks = Live (row ∷ rows)
-
 -- what has to be written where the records of a node become others: nothing where they are the same set
 unfoldable pub node_change : UnitKey → List Record → List Record → ℕ → List Wanted
 node_change key before after ticks =
@@ -109,12 +108,29 @@ add_wanted zone name row ticks =
     let before = rows_at key zone.table.0 in
     node_change key before (with_added row before) ticks
 
+-- what settings want written: nothing where each holds already
+unfoldable pub settings_wanted : List Property → List Setting → List Wanted
+settings_wanted list settings =
+    if all_hold (rules_of list) settings then []
+    else record { key = keys.Props; value = values.Props (with_settings settings list) } ∷ []
+
+-- a command of aging at a moment
+unfoldable pub set_step : Zone → AdminCmd → ℕ → Zone × Answer
+set_step zone cmd moment =
+    let list = properties_of zone.table.0 in
+    let settings = settings_of cmd (rules_of list) (hour_of moment) in
+    with_table zone (written (settings_wanted list settings) zone.id moment zone.table)
+
 -- what a command of administration makes of a zone
 unfoldable pub admin_step : Zone → AdminCmd → ℕ → Zone × Answer
 admin_step zone (Add name ttl rtype rdata hour) moment =
     if is_under name zone.apex
     then with_table zone (written (add_wanted zone name (made rtype ttl hour rdata) moment) zone.id moment zone.table)
     else (zone, answers.Admin NotInZone)
+admin_step zone AgingOn moment = set_step zone AgingOn moment
+admin_step zone AgingOff moment = set_step zone AgingOff moment
+admin_step zone (NoRefresh hours) moment = set_step zone (NoRefresh hours) moment
+admin_step zone (Refresh hours) moment = set_step zone (Refresh hours) moment
 
 -- ---- taking what another replica sent
 
@@ -138,15 +154,56 @@ merge_step zone changes =
     then (zone, answers.Gap (cursor_of changes.supplier zone.cursors) changes.from)
     else merged zone changes (winners zone.table.0 changes.units)
 
+-- ---- passes of the scavenger
+
+abbrev pub with_pass : Zone → Option Pass → Zone
+with_pass zone pass = record zone { pass = pass }
+
+-- a pass begins where none runs and the zone is due
+abbrev pub begin_at : Zone → ℕ → Option Pass → Zone × Answer
+begin_at zone moment None = (zone, answers.NotDue)
+begin_at zone moment (Some pass) = (with_pass zone (Some pass), answers.Begun)
+
+abbrev pub begin_unless : Option Pass → Zone → ℕ → Zone × Answer
+begin_unless (Some pass) zone moment = (zone, answers.Busy (hour_of pass.moment))
+begin_unless None zone moment = begin_at zone moment (begun zone.table moment)
+
+unfoldable pub begin_step : Zone → ℕ → Zone × Answer
+begin_step zone moment = begin_unless zone.pass zone moment
+
+abbrev pub swept_zone : Zone → List Write → Option Pass → Zone
+swept_zone zone writes pass = record zone { table = with_writes writes zone.table; pass = pass }
+
+-- a step's writes are taken, unless the change count would pass 2^63
+abbrev pub swept_step : Zone → List Write → Option Pass → Answer → Zone × Answer
+swept_step zone writes pass answer =
+    if nat_lt (2 ^ 63) (zone.table.1 + length writes) then (zone, answers.Refused limits.Changes) else (swept_zone zone writes pass, answer)
+
+abbrev pub finished : Zone → Pass → List Write → Answer
+finished zone pass writes =
+    answers.Finished pass.start (zone.table.1 + length writes) pass.removed pass.entombed pass.deleted pass.skipped
+
+abbrev pub step_by : Zone → StepPlan → Zone × Answer
+step_by zone (plans.Void props_usn) = (with_pass zone None, answers.Void props_usn)
+step_by zone (plans.Moved writes pass) = swept_step zone writes (Some pass) answers.Moved
+step_by zone (plans.Finished writes pass) = swept_step zone writes None (finished zone pass writes)
+
+abbrev pub step_of : Option Pass → Zone → ℕ → Zone × Answer
+step_of None zone most = (zone, answers.Idle)
+step_of (Some pass) zone most = step_by zone (step_plan zone.table.0 pass most zone.id)
+
+-- the pass goes on over at most so many units
+unfoldable pub pass_step : Zone → ℕ → Zone × Answer
+pass_step zone most = step_of zone.pass zone most
+
 -- The step of a zone: the zone and the answer after an event.
 unfoldable pub zstep : Zone → Event → Zone × Answer
 zstep zone (events.Admin cmd moment) = admin_step zone cmd moment
+zstep zone (events.Begin moment) = begin_step zone moment
+zstep zone (events.Step most) = pass_step zone most
 zstep zone (events.Merge changes) = merge_step zone changes
 
 -- ---- a zone that is created
-
-unfoldable pub property : ℕ → List ℕ → Property
-property id content = record { name_length = 1; flag = 0; id = id; content = content; tail = 0 ∷ [] }
 
 -- the properties of a new zone: type primary, updates allowed, both intervals 168 hours, aging off
 unfoldable pub first_properties : List Property
@@ -178,8 +235,8 @@ first_writes id host apex mailbox ticks =
 
 unfoldable pub created : ReplicaId → List (List ℕ) → List (List ℕ) → List (List ℕ) → ℕ → Zone
 created id host apex mailbox ticks =
-    record { id = id; host = host; apex = lowered apex; table = with_writes (first_writes id host apex mailbox ticks) ([], 0); cursors = [] }
+    record { id = id; host = host; apex = lowered apex; table = with_writes (first_writes id host apex mailbox ticks) ([], 0); cursors = []; pass = None }
 
 -- a zone that is copied from another replica: nothing is here yet
 unfoldable pub joined : ReplicaId → List (List ℕ) → List (List ℕ) → Zone
-joined id host apex = record { id = id; host = host; apex = lowered apex; table = ([], 0); cursors = [] }
+joined id host apex = record { id = id; host = host; apex = lowered apex; table = ([], 0); cursors = []; pass = None }

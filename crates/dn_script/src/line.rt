@@ -3,17 +3,22 @@ ghost use Rattle.dn_script.specs.Line.{
   add_of,
   address_command,
   admin_line,
+  aging_of,
   ask_line,
   at_line,
   command_of,
   create_line,
   deliver_line,
+  event_line,
+  hour_words,
+  interval_command,
+  interval_of,
   is_type_a,
   join_line,
   line_of,
   moment_of,
   name_word,
-  packet_verb,
+  pass_line,
   pull_line,
   replica_line,
   zone_line,
@@ -26,11 +31,14 @@ use crate::number::number_within;
 use crate::words::{address_of, copy_of, id_of, is_replica_name, is_word};
 use dn_io::{List, Moment};
 use dn_name::Name;
-use dn_store::ReplicaId;
+use dn_stamp::ReplicaId;
 use std::alloc::Global;
 
 /// The type of an address (RFC 1035 3.4.1).
 const A: u16 = 1;
+
+/// The longest interval of aging that a command sets, in hours: ten years.
+const MAX_INTERVAL: u32 = 87_600;
 
 /// A line of a script, whatever replicas and zones there are.
 #[derive(Drop)]
@@ -56,6 +64,11 @@ pub enum ScriptLine {
     Pull {
         replica: List<u8>,
         supplier: List<u8>,
+        apex: Name,
+    },
+    /// `pass R Z`
+    Pass {
+        replica: List<u8>,
         apex: Name,
     },
     /// `deliver K`
@@ -183,42 +196,98 @@ fn is_type_a(word: &[u8]) -> bool
     is_word(word, b"A") || is_word(word, b"TYPE1")
 }
 
-/// A number of 32 bits.
-fn number_of(word: &[u8]) -> Result<u32, Bad>
-    ensures { Reads result (number_within 4294967295 word.now) }
+/// A number of 32 bits, at most `most`.
+fn number_of(most: u32, word: &[u8]) -> Result<u32, Bad>
+    ensures { Reads result (number_within most word.now) }
 {
-    match number_within(u64::from(u32::MAX), word) {
+    match number_within(u64::from(most), word) {
         Some(number) => Ok(number as u32),
         None => Err(Bad::Line),
     }
 }
 
-/// The command that adds an address at a name.
+/// The command that adds an address at a name, with an hour as its time stamp.
 #[tactic(auto, unfolding(crate::specs::Line::address_command))]
-fn address_command(alloc: Global, name: &[u8], ttl: &[u8], address: &[u8]) -> Result<AdminCmd, Bad>
-    ensures { Reads result (address_command name.now ttl.now address.now) }
+fn address_command(
+    alloc: Global,
+    name: &[u8],
+    ttl: &[u8],
+    address: &[u8],
+    hour: u32,
+) -> Result<AdminCmd, Bad>
+    ensures { Reads result (address_command name.now ttl.now address.now hour) }
 {
     let name = name_of(name)?;
-    let ttl = number_of(ttl)?;
+    let ttl = number_of(u32::MAX, ttl)?;
     let rdata = address_of(alloc, address)?;
     Ok(AdminCmd::Add {
         name,
         ttl,
         rtype: A,
         rdata,
-        hour: 0,
+        hour,
     })
+}
+
+/// The hour behind `hour`, 0 where nothing is written.
+#[tactic(auto, unfolding(crate::specs::Line::hour_words))]
+fn hour_of(words: &[&[u8]]) -> Result<u32, Bad>
+    ensures { Reads result (hour_words (map (λ word. word.now) words.now)) }
+{
+    match words {
+        [] => Ok(0),
+        [word, hour] if is_word(word, b"hour") => number_of(u32::MAX, hour),
+        _ => Err(Bad::Line),
+    }
 }
 
 #[tactic(auto, unfolding(crate::specs::Line::add_of))]
 fn add_of(alloc: Global, words: &[&[u8]]) -> Result<AdminCmd, Bad>
     ensures { Reads result (add_of (map (λ word. word.now) words.now)) }
 {
+    let [name, ttl, rtype, address, rest @ ..] = words else {
+        return Err(Bad::Line);
+    };
+    if !is_type_a(rtype) {
+        return Err(Bad::Line);
+    }
+    let hour = hour_of(rest)?;
+    address_command(alloc, name, ttl, address, hour)
+}
+
+#[tactic(auto, unfolding(crate::specs::Line::aging_of))]
+fn aging_of(words: &[&[u8]]) -> Result<AdminCmd, Bad>
+    ensures { Reads result (aging_of (map (λ word. word.now) words.now)) }
+{
     match words {
-        [name, ttl, rtype, address] if is_type_a(rtype) => {
-            address_command(alloc, name, ttl, address)
-        }
+        [word] if is_word(word, b"on") => Ok(AdminCmd::AgingOn),
+        [word] if is_word(word, b"off") => Ok(AdminCmd::AgingOff),
         _ => Err(Bad::Line),
+    }
+}
+
+/// The hours of an interval, at most ten years of them.
+#[tactic(auto, unfolding(crate::specs::Line::interval_of))]
+fn interval_of(words: &[&[u8]]) -> Result<u32, Bad>
+    ensures { Reads result (interval_of (map (λ word. word.now) words.now)) }
+{
+    let [hours] = words else {
+        return Err(Bad::Line);
+    };
+    number_of(MAX_INTERVAL, hours)
+}
+
+#[tactic(auto, unfolding(crate::specs::Line::interval_command))]
+fn interval_command(verb: &[u8], words: &[&[u8]]) -> Result<AdminCmd, Bad>
+    ensures { Reads result (interval_command verb.now (map (λ word. word.now) words.now)) }
+{
+    let hours = interval_of(words)?;
+    if is_word(verb, b"norefresh") {
+        Ok(AdminCmd::NoRefresh(hours))
+    } else if is_word(verb, b"refresh") {
+        Ok(AdminCmd::Refresh(hours))
+    } else {
+        Err(Bad::Line)
     }
 }
 
@@ -226,9 +295,15 @@ fn add_of(alloc: Global, words: &[&[u8]]) -> Result<AdminCmd, Bad>
 fn command_of(alloc: Global, words: &[&[u8]]) -> Result<AdminCmd, Bad>
     ensures { Reads result (command_of (map (λ word. word.now) words.now)) }
 {
-    match words {
-        [verb, rest @ ..] if is_word(verb, b"add") => add_of(alloc, rest),
-        _ => Err(Bad::Line),
+    let [verb, rest @ ..] = words else {
+        return Err(Bad::Line);
+    };
+    if is_word(verb, b"add") {
+        add_of(alloc, rest)
+    } else if is_word(verb, b"aging") {
+        aging_of(rest)
+    } else {
+        interval_command(verb, rest)
     }
 }
 
@@ -288,18 +363,34 @@ fn deliver_line(words: &[&[u8]]) -> Result<ScriptLine, Bad>
     let [number] = words else {
         return Err(Bad::Line);
     };
-    let packet = number_of(number)?;
+    let packet = number_of(u32::MAX, number)?;
     Ok(ScriptLine::Deliver { packet })
 }
 
-#[tactic(auto, unfolding(crate::specs::Line::packet_verb))]
-fn packet_verb(alloc: Global, verb: &[u8], words: &[&[u8]]) -> Result<ScriptLine, Bad>
-    ensures { Reads result (packet_verb verb.now (map (λ word. word.now) words.now)) }
+#[tactic(auto, unfolding(crate::specs::Line::pass_line))]
+fn pass_line(alloc: Global, words: &[&[u8]]) -> Result<ScriptLine, Bad>
+    ensures { Reads result (pass_line (map (λ word. word.now) words.now)) }
+{
+    let [replica, apex] = words else {
+        return Err(Bad::Line);
+    };
+    let apex = name_of(apex)?;
+    Ok(ScriptLine::Pass {
+        replica: copy_of(alloc, replica)?,
+        apex,
+    })
+}
+
+#[tactic(auto, unfolding(crate::specs::Line::event_line))]
+fn event_line(alloc: Global, verb: &[u8], words: &[&[u8]]) -> Result<ScriptLine, Bad>
+    ensures { Reads result (event_line verb.now (map (λ word. word.now) words.now)) }
 {
     if is_word(verb, b"pull") {
         pull_line(alloc, words)
     } else if is_word(verb, b"deliver") {
         deliver_line(words)
+    } else if is_word(verb, b"pass") {
+        pass_line(alloc, words)
     } else {
         Err(Bad::Line)
     }
@@ -327,6 +418,6 @@ pub fn line_of(alloc: Global, words: &[&[u8]]) -> Result<ScriptLine, Bad>
     } else if is_word(verb, b"ask") {
         ask_line(alloc, rest)
     } else {
-        packet_verb(alloc, verb, rest)
+        event_line(alloc, verb, rest)
     }
 }

@@ -4,7 +4,8 @@ ghost use Rattle.dn_script.specs.Node.{bars, has_data_of, is_alias, is_there_as,
 ghost use Rattle.dn_script.specs.NodePlaces.{behind_place, comes_behind, place_of};
 ghost use Rattle.dn_script.specs.Added.{Adds};
 
-use dn_io::{Duplicate, List, OutOfMemory};
+use crate::copies::push_copies;
+use dn_io::{List, OutOfMemory};
 use dn_store::{Record, compare_rows};
 use std::alloc::Global;
 use std::cmp::Ordering;
@@ -54,16 +55,6 @@ fn behind_place<'a>(row: &Record, rows: &'a [Record]) -> &'a [Record]
         [next, rest @ ..] if compare_rows(row, next) == Ordering::Equal => rest,
         _ => rows,
     }
-}
-
-/// Adds copies of rows at the end.
-fn push_copies(alloc: Global, list: &mut List<Record>, rows: &[Record]) -> Result<(), OutOfMemory>
-    ensures { OnOk result (list.new ≡ list.old ++ rows.now) }
-{
-    for row in rows {
-        list.push(row.copy(alloc)?)?;
-    }
-    Ok(())
 }
 
 /// The rows with one placed in the order of type and folded data; it replaces the one of its data.

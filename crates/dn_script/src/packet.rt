@@ -4,7 +4,8 @@ ghost use Rattle.dn_script.specs.Merge.{changes_of, cursor_of, is_of_supplier, w
 
 use dn_io::{Duplicate, List, OutOfMemory};
 use dn_name::Name;
-use dn_store::{ReplicaId, Table, Unit, Write};
+use dn_stamp::ReplicaId;
+use dn_store::{Table, Unit, Write};
 use std::alloc::Global;
 use std::marker::Model;
 

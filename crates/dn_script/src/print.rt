@@ -1,22 +1,123 @@
-ghost use Rattle.std.specs.Prelude.{◌≡◌, IfOk, string_bytes};
-ghost use Rattle.dn_script.specs.Print.{answer_text, as_line, packet_text};
+ghost use Rattle.std.specs.Prelude.{◌≡◌, ◌++◌, decimal, IfOk, OnOk};
+ghost use Rattle.dn_script.specs.Print.{
+  admin_text,
+  answer_text,
+  as_line,
+  count_text,
+  gap_text,
+  limit_text,
+  packet_text,
+  span_text,
+  sweep_text,
+};
 
 use crate::event::{AdminDone, Answer, Limit};
 use dn_io::{List, OutOfMemory};
-use std::alloc::{AllocError, Global};
+use std::alloc::Global;
 
-fn answer_string(alloc: Global, answer: Answer) -> Result<String, AllocError>
-    ensures { IfOk result (λ text. string_bytes text ≡ as_line (answer_text answer)) }
+/// Prints a number in decimal.
+pub fn push_number(alloc: Global, out: &mut List<u8>, number: u64) -> Result<(), OutOfMemory>
+    ensures { OnOk result (out.new ≡ out.old ++ decimal number) }
+{
+    let text = format!(in alloc; "{number}")?;
+    out.extend(text.as_bytes())
+}
+
+/// Prints a number behind what it counts.
+#[tactic(auto, unfolding(crate::specs::Print::count_text))]
+pub fn push_count(
+    alloc: Global,
+    out: &mut List<u8>,
+    label: &[u8],
+    count: u64,
+) -> Result<(), OutOfMemory>
+    ensures { OnOk result (out.new ≡ out.old ++ count_text label.now count) }
+{
+    out.extend(label)?;
+    push_number(alloc, out, count)
+}
+
+fn push_admin(alloc: Global, out: &mut List<u8>, done: AdminDone) -> Result<(), OutOfMemory>
+    ensures { OnOk result (out.new ≡ out.old ++ admin_text done) }
+{
+    match done {
+        AdminDone::Written { units } => push_count(alloc, out, b"ok ", units),
+        AdminDone::Unchanged => out.extend(b"ok 0"),
+        AdminDone::NotInZone => out.extend(b"not in zone"),
+    }
+}
+
+fn push_limit(out: &mut List<u8>, limit: Limit) -> Result<(), OutOfMemory>
+    ensures { OnOk result (out.new ≡ out.old ++ limit_text limit) }
+{
+    match limit {
+        Limit::NodeSize => out.extend(b"refused node-size"),
+        Limit::Version => out.extend(b"refused version"),
+        Limit::Changes => out.extend(b"refused changes"),
+    }
+}
+
+/// The change counts between which a pass ran.
+#[tactic(auto, unfolding(crate::specs::Print::span_text))]
+fn push_span(alloc: Global, out: &mut List<u8>, start: u64, end: u64) -> Result<(), OutOfMemory>
+    ensures { OnOk result (out.new ≡ out.old ++ span_text start end) }
+{
+    out.extend(b"finished")?;
+    push_count(alloc, out, b" start ", start)?;
+    push_count(alloc, out, b" end ", end)
+}
+
+/// What a finished pass did.
+#[tactic(auto, unfolding(crate::specs::Print::sweep_text))]
+fn push_sweep(
+    alloc: Global,
+    out: &mut List<u8>,
+    removed: u64,
+    entombed: u64,
+    deleted: u64,
+    skipped: u64,
+) -> Result<(), OutOfMemory>
+    ensures { OnOk result (out.new ≡ out.old ++ sweep_text removed entombed deleted skipped) }
+{
+    push_count(alloc, out, b" removed ", removed)?;
+    push_count(alloc, out, b" entombed ", entombed)?;
+    push_count(alloc, out, b" deleted ", deleted)?;
+    push_count(alloc, out, b" skipped ", skipped)
+}
+
+#[tactic(auto, unfolding(crate::specs::Print::gap_text))]
+fn push_gap(alloc: Global, out: &mut List<u8>, cursor: u64, from: u64) -> Result<(), OutOfMemory>
+    ensures { OnOk result (out.new ≡ out.old ++ gap_text cursor from) }
+{
+    push_count(alloc, out, b"gap ", cursor)?;
+    push_count(alloc, out, b" ", from)
+}
+
+fn push_answer(alloc: Global, out: &mut List<u8>, answer: Answer) -> Result<(), OutOfMemory>
+    ensures { OnOk result (out.new ≡ out.old ++ answer_text answer) }
 {
     match answer {
-        Answer::Admin(AdminDone::Written { units }) => format!(in alloc; "ok {units}\n"),
-        Answer::Admin(AdminDone::Unchanged) => String::from_str(alloc, "ok 0\n"),
-        Answer::Admin(AdminDone::NotInZone) => String::from_str(alloc, "not in zone\n"),
-        Answer::Merged { won } => format!(in alloc; "merged {won}\n"),
-        Answer::Gap { cursor, from } => format!(in alloc; "gap {cursor} {from}\n"),
-        Answer::Refused(Limit::NodeSize) => String::from_str(alloc, "refused node-size\n"),
-        Answer::Refused(Limit::Version) => String::from_str(alloc, "refused version\n"),
-        Answer::Refused(Limit::Changes) => String::from_str(alloc, "refused changes\n"),
+        Answer::Admin(done) => push_admin(alloc, out, done),
+        Answer::Begun => out.extend(b"begun"),
+        Answer::NotDue => out.extend(b"not due"),
+        Answer::Busy { hour } => push_count(alloc, out, b"busy ", u64::from(hour)),
+        Answer::Moved => out.extend(b"moved"),
+        Answer::Finished {
+            start,
+            end,
+            removed,
+            entombed,
+            deleted,
+            skipped,
+        } => {
+            push_span(alloc, out, start, end)?;
+            push_sweep(alloc, out, removed, entombed, deleted, skipped)
+        }
+        Answer::Void { props_usn } => push_count(alloc, out, b"void ", props_usn),
+        Answer::Idle => out.extend(b"idle"),
+        Answer::Merged { won } => push_count(alloc, out, b"merged ", u64::from(won)),
+        Answer::Gap { cursor, from } => push_gap(alloc, out, cursor, from),
+        Answer::Refused(limit) => push_limit(out, limit),
     }
 }
 
@@ -24,12 +125,19 @@ fn answer_string(alloc: Global, answer: Answer) -> Result<String, AllocError>
 pub fn answer_line(alloc: Global, answer: Answer) -> Result<List<u8>, OutOfMemory>
     ensures { IfOk result (λ line. line ≡ as_line (answer_text answer)) }
 {
-    Ok(List::of(answer_string(alloc, answer)?.into_bytes()))
+    let mut line = List::new(alloc);
+    push_answer(alloc, &mut line, answer)?;
+    line.extend(b"\n")?;
+    Ok(line)
 }
 
 /// The line that a script prints of a packet that was sent.
+#[tactic(auto, unfolding(crate::specs::Print::packet_text))]
 pub fn packet_line(alloc: Global, number: u32) -> Result<List<u8>, OutOfMemory>
     ensures { IfOk result (λ line. line ≡ as_line (packet_text number)) }
 {
-    Ok(List::of(format!(in alloc; "packet {number}\n")?.into_bytes()))
+    let mut line = List::new(alloc);
+    push_count(alloc, &mut line, b"packet ", u64::from(number))?;
+    line.extend(b"\n")?;
+    Ok(line)
 }

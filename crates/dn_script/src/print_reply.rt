@@ -2,10 +2,9 @@ ghost use Rattle.std.specs.Prelude.{◌≡◌, ◌++◌, ◌-◌, drop, flat_map
 ghost use Rattle.std.specs.Int.{w32, from_be_bytes};
 ghost use Rattle.std.specs.List.{slice_index};
 ghost use Rattle.dn_name.specs.Text.{text_of};
-ghost use Rattle.dn_script.specs.Print.{as_line};
+ghost use Rattle.dn_script.specs.Print.{as_line, count_text};
 ghost use Rattle.dn_script.specs.PrintReply.{
   bit,
-  count_text,
   counts_text,
   data_text,
   decimals_behind,
@@ -24,6 +23,7 @@ ghost use Rattle.dn_script.specs.PrintReply.{
   type_text,
 };
 
+use crate::print::{push_count, push_number};
 use crate::reply::{Rcode, Reply, Rr};
 use dn_io::{List, OutOfMemory};
 use dn_name::Name;
@@ -46,13 +46,6 @@ fn push_name(out: &mut List<u8>, name: &Name) -> Result<(), OutOfMemory>
     let mut text = [0u8; 1020];
     let len = name.write_text(&mut text);
     out.extend(&text[..len])
-}
-
-fn push_number(alloc: Global, out: &mut List<u8>, number: u64) -> Result<(), OutOfMemory>
-    ensures { OnOk result (out.new ≡ out.old ++ decimal number) }
-{
-    let text = format!(in alloc; "{number}")?;
-    out.extend(text.as_bytes())
 }
 
 /// The code of a reply by name.
@@ -262,19 +255,6 @@ fn push_labelled(out: &mut List<u8>, label: &[u8], value: &[u8]) -> Result<(), O
     out.extend(value)
 }
 
-#[tactic(auto, unfolding(crate::specs::PrintReply::count_text))]
-fn push_count(
-    alloc: Global,
-    out: &mut List<u8>,
-    label: &[u8],
-    count: usize,
-) -> Result<(), OutOfMemory>
-    ensures { OnOk result (out.new ≡ out.old ++ count_text label.now count) }
-{
-    out.extend(label)?;
-    push_number(alloc, out, count as u64)
-}
-
 /// The code and the flags of a reply.
 #[tactic(auto, unfolding(crate::specs::PrintReply::flags_text))]
 fn push_flags(out: &mut List<u8>, reply: &Reply) -> Result<(), OutOfMemory>
@@ -290,9 +270,9 @@ fn push_flags(out: &mut List<u8>, reply: &Reply) -> Result<(), OutOfMemory>
 fn push_counts(alloc: Global, out: &mut List<u8>, reply: &Reply) -> Result<(), OutOfMemory>
     ensures { OnOk result (out.new ≡ out.old ++ counts_text reply.now) }
 {
-    push_count(alloc, out, b" answer ", reply.answer.len())?;
-    push_count(alloc, out, b" authority ", reply.authority.len())?;
-    push_count(alloc, out, b" additional ", reply.additional.len())
+    push_count(alloc, out, b" answer ", reply.answer.len() as u64)?;
+    push_count(alloc, out, b" authority ", reply.authority.len() as u64)?;
+    push_count(alloc, out, b" additional ", reply.additional.len() as u64)
 }
 
 /// The line that says what a reply is.

@@ -4,7 +4,7 @@ use crate::tests::played;
 use crate::zone::{Acted, Zone};
 use dn_io::{List, Status};
 use dn_name::Name;
-use dn_store::ReplicaId;
+use dn_stamp::ReplicaId;
 use std::alloc::Global;
 use std::test::*;
 

@@ -4,7 +4,7 @@ use crate::script::Script;
 use crate::world::{World, WorldAnswer, WorldEvent};
 use dn_io::{List, Moment};
 use dn_name::Name;
-use dn_store::ReplicaId;
+use dn_stamp::ReplicaId;
 use std::alloc::Global;
 use std::process::Abort;
 use std::test::*;

@@ -1,18 +1,20 @@
 ghost use Rattle.std.specs.Prelude.{◌≡◌};
 ghost use Rattle.std.specs.List.{list_any};
-ghost use Rattle.dn_script.specs.Play.{is_named, number_of, opening, run_event, run_line, step_text};
+ghost use Rattle.dn_script.specs.Play.{is_named, number_of, opening, output_of, run_event, run_line, step_text};
 ghost use Rattle.dn_script.specs.Stepped.{Steps};
+ghost use Rattle.dn_script.specs.Words.{Reads};
 
 use crate::bad::Bad;
 use crate::event::{AdminCmd, Event};
 use crate::line::{ScriptLine, line_of};
+use crate::passes::whole_pass;
 use crate::print::{answer_line, packet_line};
 use crate::print_reply::reply_text;
 use crate::words::{does_nothing, words};
 use crate::world::{World, WorldAnswer, WorldEvent};
 use dn_io::{List, Moment};
 use dn_name::Name;
-use dn_store::ReplicaId;
+use dn_stamp::ReplicaId;
 use std::alloc::Global;
 
 /// A script so far: the names of its replicas in the order of their numbers, the world, and the moment.
@@ -21,6 +23,19 @@ pub struct Script {
     pub names: List<List<u8>>,
     pub world: World,
     pub moment: Moment,
+}
+
+/// The line of output of an answer.
+#[tactic(auto, unfolding(crate::specs::Play::output_of))]
+fn output_of(alloc: Global, answer: WorldAnswer) -> Result<List<u8>, Bad>
+    ensures { Reads result (output_of answer) }
+{
+    match answer {
+        WorldAnswer::Made => Ok(List::new(alloc)),
+        WorldAnswer::Zone(answer) => Ok(answer_line(alloc, answer)?),
+        WorldAnswer::Sent { packet } => Ok(packet_line(alloc, packet)?),
+        WorldAnswer::No(_) => Err(Bad::Line),
+    }
 }
 
 impl Script {
@@ -66,12 +81,8 @@ impl Script {
     fn run_event(&mut self, alloc: Global, event: &WorldEvent) -> Result<List<u8>, Bad>
         ensures { Steps result self.new (run_event self.old event.now) }
     {
-        match self.world.step(alloc, event)? {
-            WorldAnswer::Made => Ok(List::new(alloc)),
-            WorldAnswer::Zone(answer) => Ok(answer_line(alloc, answer)?),
-            WorldAnswer::Sent { packet } => Ok(packet_line(alloc, packet)?),
-            WorldAnswer::No(_) => Err(Bad::Line),
-        }
+        let answer = self.world.step(alloc, event)?;
+        output_of(alloc, answer)
     }
 
     #[tactic(auto, unfolding(crate::specs::Play::run_line))]
@@ -143,6 +154,18 @@ impl Script {
         self.run_event(alloc, &WorldEvent::Pull { by, of, apex })
     }
 
+    /// A whole pass over a zone.
+    #[tactic(auto, unfolding(crate::specs::Play::run_line, crate::specs::Play::run_pass))]
+    fn pass(&mut self, alloc: Global, replica: &[u8], apex: &Name) -> Result<List<u8>, Bad>
+        ensures { Steps result self.new (run_line self.old (ScriptLine.Pass replica.now apex.now)) }
+    {
+        let Some(at) = self.number_of(replica) else {
+            return Err(Bad::Line);
+        };
+        let answer = whole_pass(alloc, &mut self.world, at, apex, self.moment)?;
+        output_of(alloc, answer)
+    }
+
     #[tactic(auto, unfolding(crate::specs::Play::run_line))]
     fn admin(
         &mut self,
@@ -200,6 +223,7 @@ impl Script {
                 supplier,
                 apex,
             } => self.pull(alloc, replica.as_slice(), supplier.as_slice(), apex),
+            ScriptLine::Pass { replica, apex } => self.pass(alloc, replica.as_slice(), &apex),
             ScriptLine::Deliver { packet } => {
                 self.run_event(alloc, &WorldEvent::Deliver { packet })
             }

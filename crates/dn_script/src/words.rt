@@ -17,7 +17,7 @@ ghost use Rattle.dn_script.specs.Words.{
 use crate::bad::Bad;
 use crate::number::number_within;
 use dn_io::{List, OutOfMemory};
-use dn_store::ReplicaId;
+use dn_stamp::ReplicaId;
 use std::alloc::{AllocError, Global};
 
 fn is_blank(byte: u8) -> bool

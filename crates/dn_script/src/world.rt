@@ -2,6 +2,7 @@ ghost use Rattle.std.specs.Prelude.{◌≡◌, IfOk, OnErr, Some, count_by, opti
 ghost use Rattle.std.specs.List.{list_any};
 ghost use Rattle.dn_script.specs.Ask.{world_reply};
 ghost use Rattle.dn_script.specs.Merges.{MergesAt};
+ghost use Rattle.dn_script.specs.Passes.{units_of};
 ghost use Rattle.dn_script.specs.World.{answer_pull, deliver_post, has_id, holds, is_of, is_zone, nearer, no_room, post_at, sent, wstep, wstep_act, wstep_pull, wstep_replica, zone_for, zone_of};
 
 use crate::event::{Answer, Event};
@@ -10,7 +11,7 @@ use crate::reply::{Rcode, Reply};
 use crate::zone::{Acted, Zone};
 use dn_io::{List, Moment, OutOfMemory};
 use dn_name::Name;
-use dn_store::ReplicaId;
+use dn_stamp::ReplicaId;
 use std::alloc::Global;
 
 /// The most packets of a run.
@@ -345,6 +346,19 @@ impl World {
             .as_slice()
             .iter()
             .find(|zone| zone.id == id && zone.apex.same(apex))
+    }
+
+    /// How many units a replica's zone has, 0 where there is none.
+    pub fn units_of(&self, at: usize, apex: &Name) -> usize
+        ensures { result ≡ units_of self.now apex.now (slice_get self.now.replicas at) }
+    {
+        let Some(replica) = self.replicas.get(at) else {
+            return 0;
+        };
+        match self.zone_of(replica.id, apex) {
+            Some(zone) => zone.table.count(),
+            None => 0,
+        }
     }
 
     #[tactic(auto, unfolding(crate::specs::World::wstep_pull))]

@@ -1,4 +1,4 @@
-ghost use Rattle.std.specs.Prelude.{◌≡◌, ◌+◌, ◌≤◌, ◌^◌, [], ◌∷◌, ◌++◌, length, IfOk, IsTrue, OnOk};
+ghost use Rattle.std.specs.Prelude.{◌≡◌, ◌+◌, ◌≤◌, ◌^◌, nat_lt, [], ◌∷◌, ◌++◌, length, IfOk, IsTrue, OnOk};
 ghost use Rattle.dn_name.specs.Name.{wire_of};
 ghost use Rattle.dn_store.specs.Value.{fits};
 ghost use Rattle.dn_script.specs.Acted.{Acts};
@@ -6,20 +6,26 @@ ghost use Rattle.dn_script.specs.Ask.{serial_of, zone_reply};
 ghost use Rattle.std.specs.List.{AllByRecursion};
 ghost use Rattle.dn_store.specs.Table.{KeysDiffer};
 ghost use Rattle.dn_script.specs.Merge.{changes_of, winners, wins};
+ghost use Rattle.dn_script.specs.Moments.{seconds_of};
 ghost use Rattle.dn_script.specs.Node.{rows_at};
 ghost use Rattle.dn_script.specs.World.{pull_of};
 ghost use Rattle.dn_script.specs.Zone.{
   add_wanted,
   admin_step,
+  begin_step,
   created,
+  finished,
   first_properties,
   first_rows,
   joined,
   merge_step,
   moved,
-  property,
-  seconds_of,
+  pass_step,
+  set_step,
   stamp_for,
+  swept_step,
+  swept_zone,
+  with_pass,
   with_table,
   written,
   zstep,
@@ -29,12 +35,15 @@ use crate::answer::answer_of;
 use crate::event::{AdminCmd, AdminDone, Answer, Event, Limit};
 use crate::node::with_added;
 use crate::packet::{Changes, Cursor, Packet, changes_of, cursor_of, with_cursor};
+use crate::pass::{Pass, StepPlan, begin, step};
 use crate::reply::Reply;
 use crate::rows::rows_of;
-use crate::words::copy_of;
+use crate::settings::{all_hold, properties_of, property, settings_of, with_settings};
 use dn_io::{Duplicate, List, Moment, OutOfMemory};
 use dn_name::{Name, NoRoom};
-use dn_store::{Property, Record, ReplicaId, Stamp, Table, Unit, UnitKey, UnitValue, Write, fits};
+use dn_property::{Property, rules_of};
+use dn_stamp::{ReplicaId, Stamp};
+use dn_store::{Record, Table, Unit, UnitKey, UnitValue, Write, fits};
 use std::alloc::Global;
 
 /// Serial 1, refresh 900, retry 600, expire 86400 and minimum 3600 of a new zone's SOA (RFC 1035 3.3.13).
@@ -64,6 +73,8 @@ pub struct Zone {
     pub table: Table,
     /// Up to which number of each supplier's changes it has taken.
     pub cursors: List<Cursor>,
+    /// The pass that runs.
+    pub pass: Option<Pass>,
 }
 
 /// What an event makes of a zone: it stays the same, or becomes another.
@@ -71,19 +82,6 @@ pub struct Zone {
 pub enum Acted {
     Same(Answer),
     Became(Zone, Answer),
-}
-
-#[tactic(auto, unfolding(crate::specs::Zone::property))]
-fn property(alloc: Global, id: u32, content: &[u8]) -> Result<Property, OutOfMemory>
-    ensures { IfOk result (λ item. item ≡ property id content.now) }
-{
-    Ok(Property {
-        name_length: 1,
-        flag: 0,
-        id,
-        content: copy_of(alloc, content)?,
-        tail: copy_of(alloc, &[0])?,
-    })
 }
 
 /// The properties of a new zone.
@@ -168,6 +166,7 @@ impl Zone {
             apex,
             table,
             cursors: List::new(alloc),
+            pass: None,
         })
     }
 
@@ -185,6 +184,7 @@ impl Zone {
             apex: apex.lower(),
             table: Table::empty(alloc)?,
             cursors: List::new(alloc),
+            pass: None,
         })
     }
 
@@ -201,6 +201,117 @@ impl Zone {
                 },
             ) => rows.as_slice(),
             _ => &[],
+        }
+    }
+
+    /// The zone after these writes, with this pass.
+    fn after(
+        &self,
+        alloc: Global,
+        writes: &List<Write>,
+        pass: Option<Pass>,
+    ) -> Result<Zone, OutOfMemory>
+        requires keys { KeysDiffer writes.now }
+        requires values { AllByRecursion (λ write. IsTrue (fits write.value)) writes.now }
+        requires count { self.now.table.1 + length writes.now ≤ 2 ^ 63 }
+        ensures { IfOk result (λ zone. zone ≡ swept_zone self.now writes.now pass) }
+    {
+        Ok(Zone {
+            id: self.id,
+            host: self.host,
+            apex: self.apex,
+            table: self.table.put(writes)?,
+            cursors: self.cursors.copy(alloc)?,
+            pass,
+        })
+    }
+
+    /// The zone with another pass, or with none.
+    fn with_pass(&self, alloc: Global, pass: Option<Pass>) -> Result<Zone, OutOfMemory>
+        ensures { IfOk result (λ zone. zone ≡ with_pass self.now pass) }
+    {
+        let _top = self.table.top();
+        self.after(alloc, &List::new(alloc), pass)
+    }
+
+    /// A pass begins, where none runs and the zone is due.
+    #[tactic(auto, unfolding(crate::specs::Zone::begin_step))]
+    fn begin(&self, alloc: Global, moment: Moment) -> Result<Acted, OutOfMemory>
+        ensures { IfOk result (λ acted. Acts acted self.now (begin_step self.now moment)) }
+    {
+        if let Some(pass) = &self.pass {
+            let hour = pass.moment.hour();
+            return Ok(Acted::Same(Answer::Busy { hour }));
+        }
+        match begin(&self.table, moment) {
+            Some(pass) => {
+                let after = self.with_pass(alloc, Some(pass))?;
+                Ok(Acted::Became(after, Answer::Begun))
+            }
+            None => Ok(Acted::Same(Answer::NotDue)),
+        }
+    }
+
+    /// Whether so many writes would pass the most that a zone takes.
+    fn is_full(&self, writes: &List<Write>) -> bool
+        ensures { result ≡ nat_lt (2 ^ 63) (self.now.table.1 + length writes.now) }
+    {
+        let count = writes.len() as u64;
+        count > MAX_CHANGES || self.table.top() > MAX_CHANGES - count
+    }
+
+    /// The zone behind a step of its pass.
+    fn swept(
+        &self,
+        alloc: Global,
+        writes: &List<Write>,
+        pass: Option<Pass>,
+        answer: Answer,
+    ) -> Result<Acted, OutOfMemory>
+        requires keys { KeysDiffer writes.now }
+        requires values { AllByRecursion (λ write. IsTrue (fits write.value)) writes.now }
+        ensures { IfOk result (λ acted. Acts acted self.now (swept_step self.now writes.now pass answer)) }
+    {
+        if self.is_full(writes) {
+            return Ok(Acted::Same(Answer::Refused(Limit::Changes)));
+        }
+        Ok(Acted::Became(self.after(alloc, writes, pass)?, answer))
+    }
+
+    /// The pass goes on over so many units.
+    #[tactic(auto, unfolding(crate::specs::Zone::pass_step))]
+    fn step(&self, alloc: Global, most: u32) -> Result<Acted, OutOfMemory>
+        ensures { IfOk result (λ acted. Acts acted self.now (pass_step self.now most)) }
+    {
+        let Some(pass) = &self.pass else {
+            return Ok(Acted::Same(Answer::Idle));
+        };
+        match step(alloc, &self.table, pass, most, self.id)? {
+            StepPlan::Void { props_usn } => {
+                let after = self.with_pass(alloc, None)?;
+                Ok(Acted::Became(after, Answer::Void { props_usn }))
+            }
+            StepPlan::Moved { writes, pass } => {
+                self.swept(alloc, &writes, Some(pass), Answer::Moved)
+            }
+            StepPlan::Finished { writes, pass } => {
+                let answer = self.finished(&pass, &writes);
+                self.swept(alloc, &writes, None, answer)
+            }
+        }
+    }
+
+    /// What a finished pass did.
+    fn finished(&self, pass: &Pass, writes: &List<Write>) -> Answer
+        ensures { self.now.table.1 + length writes.now ≤ 2 ^ 63 → result ≡ finished self.now pass.now writes.now }
+    {
+        Answer::Finished {
+            start: pass.start,
+            end: self.table.top().saturating_add(writes.len() as u64),
+            removed: pass.removed,
+            entombed: pass.entombed,
+            deleted: pass.deleted,
+            skipped: pass.skipped,
         }
     }
 
@@ -226,13 +337,7 @@ impl Zone {
         }
         let mut batch = List::new(alloc);
         batch.push(Write { key, stamp, value })?;
-        let after = Zone {
-            id: self.id,
-            host: self.host,
-            apex: self.apex,
-            table: self.table.put(&batch)?,
-            cursors: self.cursors.copy(alloc)?,
-        };
+        let after = self.after(alloc, &batch, self.pass)?;
         Ok(Acted::Became(after, Answer::Admin(AdminDone::Written { units: 1 })))
     }
 
@@ -262,6 +367,21 @@ impl Zone {
             None => Ok(Acted::Same(Answer::Admin(AdminDone::Unchanged))),
             Some(rows) => self.write(alloc, key, UnitValue::Live(rows), moment),
         }
+    }
+
+    /// Sets what a command of aging says, where it isn't so already.
+    #[tactic(auto, unfolding(crate::specs::Zone::set_step, crate::specs::Zone::settings_wanted))]
+    fn set(&self, alloc: Global, cmd: &AdminCmd, moment: Moment) -> Result<Acted, OutOfMemory>
+        ensures { IfOk result (λ acted. Acts acted self.now (set_step self.now cmd.now moment)) }
+    {
+        let list = properties_of(&self.table);
+        let rules = rules_of(list);
+        let settings = settings_of(alloc, cmd, &rules, moment.hour())?;
+        if all_hold(&rules, settings.as_slice()) {
+            return Ok(Acted::Same(Answer::Admin(AdminDone::Unchanged)));
+        }
+        let after = with_settings(alloc, settings.as_slice(), list)?;
+        self.write(alloc, UnitKey::Props, UnitValue::Props(after), moment)
     }
 
     /// The serial that the zone's SOA is answered with: one above its change count, in 32 bits.
@@ -335,6 +455,7 @@ impl Zone {
             apex: self.apex,
             table: self.table.put(won)?,
             cursors: with_cursor(alloc, changes.supplier, seen, &self.cursors)?,
+            pass: self.pass,
         })
     }
 
@@ -354,12 +475,12 @@ impl Zone {
             }));
         }
         let won = self.winners(alloc, changes.units.as_slice())?;
-        let count = won.len() as u64;
-        if count > MAX_CHANGES || self.table.top() > MAX_CHANGES - count {
+        if self.is_full(&won) {
             return Ok(Acted::Same(Answer::Refused(Limit::Changes)));
         }
+        let count = won.len() as u32;
         let after = self.moved(alloc, changes, &won)?;
-        Ok(Acted::Became(after, Answer::Merged { won: count as u32 }))
+        Ok(Acted::Became(after, Answer::Merged { won: count }))
     }
 
     /// What the zone asks of a supplier: its changes above the cursor.
@@ -393,6 +514,8 @@ impl Zone {
     {
         match event {
             Event::Admin { cmd, moment } => self.admin(alloc, cmd, *moment),
+            Event::Begin { moment } => self.begin(alloc, *moment),
+            Event::Step { most } => self.step(alloc, *most),
             Event::Merge { changes } => self.merge(alloc, changes),
         }
     }
@@ -407,7 +530,10 @@ impl Zone {
             rtype,
             rdata,
             hour,
-        } = cmd;
+        } = cmd
+        else {
+            return self.set(alloc, cmd, moment);
+        };
         if !name.is_under(&self.apex) {
             return Ok(Acted::Same(Answer::Admin(AdminDone::NotInZone)));
         }

@@ -14,7 +14,7 @@ use Rattle.dn_store.specs.declared.unit.Write.{Write}
 use Rattle.dn_store.specs.declared.unit.UnitKey.{UnitKey}
 use Rattle.dn_store.specs.declared.unit.UnitKey.TheVariants.{Props, Node}
 use Rattle.dn_store.specs.Value.{fits, key_order}
-use Rattle.dn_store.specs.Table.{Differ, IsLeastAbove, IsNumber, IsTable, KeysGrow, is_above, numbered, placed, taken, unit_above}
+use Rattle.dn_store.specs.Table.{change_limit, Differ, IsLeastAbove, IsNumber, IsTable, KeysGrow, is_above, numbered, placed, taken, unit_above}
 
 -- ---- the order of keys
 
@@ -144,24 +144,25 @@ fresh_in top number (unit ∷ list) is all = (fresh_one top number unit.usn is a
 
 -- ---- a table stays a table
 
-pub table_placed : (top : ℕ) (unit : units.Unit) (list : List units.Unit) → unit.usn ≡ top + 1 → IsTrue (fits unit.value) → IsTable list top → IsTable (placed unit list) (top + 1)
-table_placed top unit list is fit table =
+pub table_placed : (top : ℕ) (unit : units.Unit) (list : List units.Unit) → unit.usn ≡ top + 1 → IsTrue (fits unit.value) → top + 1 ≤ change_limit → IsTable list top → IsTable (placed unit list) (top + 1)
+table_placed top unit list is fit most table =
     let holds : IsNumber (top + 1) unit.usn = (omega arith, omega arith) in
     record {
       ordered = grow_placed unit list table.ordered;
       numbers = all_placed (λ one. IsNumber (top + 1) one.usn) unit list holds (higher top list table.numbers);
       differ = differ_placed unit list (fresh_in top unit.usn list is table.numbers) table.differ;
       fitting = all_placed (λ one. IsTrue (fits one.value)) unit list fit table.fitting;
+      most = most;
     }
 
 -- after a whole batch
-pub table_taken : (list : List units.Unit) (top : ℕ) (batch : List Write) → AllByRecursion (λ write. IsTrue (fits write.value)) batch → IsTable list top
+pub table_taken : (list : List units.Unit) (top : ℕ) (batch : List Write) → AllByRecursion (λ write. IsTrue (fits write.value)) batch → top + length batch ≤ change_limit → IsTable list top
     → IsTable (taken list top batch) (top + length batch)
-table_taken list top [] fit table = let e : top ≡ top + 0 = omega arith in subst (IsTable list) e table
-table_taken list top (write ∷ batch) fit table =
+table_taken list top [] fit most table = let e : top ≡ top + 0 = omega arith in subst (IsTable list) e table
+table_taken list top (write ∷ batch) fit most table =
     let e : (top + 1) + length batch ≡ top + suc (length batch) = omega arith in
     subst (IsTable (taken (placed (numbered (top + 1) write) list) (top + 1) batch)) e
-    (table_taken (placed (numbered (top + 1) write) list) (top + 1) batch fit.1 (table_placed top (numbered (top + 1) write) list refl fit.0 table))
+    (table_taken (placed (numbered (top + 1) write) list) (top + 1) batch fit.1 (omega arith) (table_placed top (numbered (top + 1) write) list refl fit.0 (omega arith) table))
 
 -- ---- the first unit above a key is the least
 

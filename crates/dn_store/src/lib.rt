@@ -5,14 +5,12 @@ mod changes;
 mod order;
 mod record;
 mod rows;
-mod stamp;
 mod table;
 mod unit;
 mod value;
 
-pub use record::{Property, Record};
+pub use record::Record;
 pub use rows::compare_rows;
-pub use stamp::{ReplicaId, Stamp};
 pub use table::{ChangeRun, Table};
 pub use unit::{Unit, UnitKey, UnitValue, Write};
 pub use value::{fits, unit_ok, value_len};

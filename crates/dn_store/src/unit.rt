@@ -1,6 +1,8 @@
-use crate::{Property, Record, Stamp};
+use crate::Record;
 use dn_io::{Duplicate, List, OutOfMemory};
 use dn_name::Name;
+use dn_property::Property;
+use dn_stamp::Stamp;
 use std::alloc::Global;
 
 /// What a unit of a zone is about: the zone's property list, or a node by its name in lower case.

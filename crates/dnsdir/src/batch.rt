@@ -1,5 +1,6 @@
 ghost use Rattle.std.specs.Prelude.{◌≡◌, ◌≢◌, ◌↔◌, ◌≤◌, ℕ, List, false, map};
 ghost use Rattle.dn_io.specs.Outside.{Rose, Told};
+ghost use Rattle.dn_script.specs.Aging.{AgesRightly};
 ghost use Rattle.dn_script.specs.Alike.{AnswersAlike};
 ghost use Rattle.dn_script.specs.Play.{world_after};
 ghost use Rattle.dnsdir.specs.Batch.{EndedAs, IsDoneOrWant, IsValid, is_batch};
@@ -7,7 +8,7 @@ ghost use Rattle.dnsdir.specs.Command.{command_in};
 
 use crate::command::{Command, command_of};
 use dn_io::{Sink, Source, Status};
-use dn_script::{equal_replicas_answer_alike, replay};
+use dn_script::{equal_replicas_answer_alike, passes_take_stale_records_alone, replay};
 use std::alloc::Global;
 
 /// Does what the words of the command line ask for, but for serving: reads the source, writes to the sink, and answers
@@ -42,8 +43,14 @@ pub fn batch<S: Source, K: Sink>(
     // In the world behind so many lines of any script, two replicas whose units of a zone are equal by key, stamp and value
     // answer each question alike, save for the primary server and the serial of an SOA.
     ensures alike { (script : List ℕ) (count : ℕ) → AnswersAlike (world_after count script) }
+
+    // From there on, whatever events happen to a zone, before each step of a pass the zone is due at the pass's hour, the
+    // records that a step takes away are stale at that hour and no other record changes, and a finished pass leaves no
+    // stale record on a node that nothing else has touched, but for those at their last version, which it counted.
+    ensures aging { (script : List ℕ) (count : ℕ) → AgesRightly (world_after count script) }
 {
     equal_replicas_answer_alike();
+    passes_take_stale_records_alone();
     match command_of(words) {
         Command::Replay => replay(alloc, source, sink),
         _ => Status::Usage,

@@ -10,8 +10,8 @@ pub moved-requires-clause-values : goal.moved-requires-clause-values
 moved-requires-clause-values c =
     (won_taken c.args.self.now.table.0 c.changes.inside.units c.as_slice-2.result.now c.in_ok-won.won c.changes.invariant c.as_slice-2.ensures c.in_ok-won.ensures).values
 
-pub overflow_cast-result : goal.overflow_cast-result
-overflow_cast-result c =
+pub overflow_cast-count : goal.overflow_cast-count
+overflow_cast-count c =
     let most : length c.in_ok-won.won ≤ 64000 =
     (won_taken c.args.self.now.table.0 c.changes.inside.units c.as_slice-2.result.now c.in_ok-won.won c.changes.invariant c.as_slice-2.ensures c.in_ok-won.ensures).count in
     omega arith

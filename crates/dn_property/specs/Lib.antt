@@ -1,0 +1,2 @@
+pub mod Hours
+pub mod Rules

@@ -1,0 +1,10 @@
+-- Moments, in ticks of 100 ns since 1601-01-01 00:00 UTC.
+use Rattle.std.specs.Prelude.{ℕ, ◌/◌}
+
+-- whole seconds of a moment
+abbrev pub seconds_of : ℕ → ℕ
+seconds_of ticks = ticks / 10000000
+
+-- whole hours of a moment
+abbrev pub hour_of : ℕ → ℕ
+hour_of ticks = ticks / 36000000000

@@ -1,0 +1,11 @@
+//! Stamps of writes, and values that are joined by the greater stamp.
+#![tactic(auto)]
+
+mod join;
+mod stamp;
+
+pub use join::{Join, Stamped};
+pub use stamp::{ReplicaId, Stamp};
+
+#[cfg(test)]
+mod tests;
