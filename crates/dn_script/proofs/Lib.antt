@@ -12,6 +12,7 @@ pub mod Filters
 pub mod GlueTurns
 pub mod LastKeys
 pub mod Merges
+pub mod NamesKept
 pub mod NodeAdded
 pub mod NodeOrder
 pub mod NodePlaced

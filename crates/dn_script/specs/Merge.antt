@@ -1,39 +1,28 @@
 -- Replication: what a replica asks of another, what it is sent, and what a zone takes of it.
-use Rattle.std.specs.Prelude.{ℕ, min, Bool, true, nat_eq, List, [], ◌∷◌, ◌++◌, filter, find, map, position, slice_set, Option, None, Some}
+use Rattle.std.specs.Prelude.{ℕ, min, Bool, true, nat_eq, List, filter, map, Option, None, Some, unwrap_or}
 use Rattle.std.specs.Ordering.{is_gt}
 use lib.Pointwise.{pointwise}
+use Rattle.indexmap.specs.IndexMap.{insert_entry}
+use Rattle.std.specs.Map.{lookup}
 use Rattle.dn_stamp.specs.declared.stamp.ReplicaId.{ReplicaId}
 use Rattle.dn_stamp.specs.Stamp.{stamp_order}
 use Rattle.dn_store.specs.declared.unit.Unit as units
 use Rattle.dn_store.specs.declared.unit.Write.{Write}
 use Rattle.dn_store.specs.Table.{run_after, unit_at, write_of}
 use Rattle.dn_script.specs.declared.packet.Changes.{Changes}
-use Rattle.dn_script.specs.declared.packet.Cursor.{Cursor}
 
 abbrev pub is_id : ReplicaId → ReplicaId → Bool
 is_id left right = pointwise nat_eq left.0 right.0
 
 -- ---- cursors: up to which number of a supplier's changes a zone has taken
 
-abbrev pub is_of_supplier : ReplicaId → Cursor → Bool
-is_of_supplier supplier cursor = is_id cursor.supplier supplier
-
-abbrev pub seen_by : Option Cursor → ℕ
-seen_by None = 0
-seen_by (Some cursor) = cursor.seen
-
 -- the cursor of a supplier, 0 where there is none
-unfoldable pub cursor_of : ReplicaId → List Cursor → ℕ
-cursor_of supplier cursors = seen_by (find (is_of_supplier supplier) cursors)
+unfoldable pub cursor_of : ReplicaId → List (ReplicaId × ℕ) → ℕ
+cursor_of supplier cursors = unwrap_or (lookup (is_id supplier) cursors) 0
 
-abbrev pub cursor_at : Option ℕ → Cursor → List Cursor → List Cursor
-cursor_at None cursor cursors = cursors ++ cursor ∷ []
-cursor_at (Some at) cursor cursors = slice_set cursors at cursor
-
--- the cursors after one moved to a number
-unfoldable pub with_cursor : ReplicaId → ℕ → List Cursor → List Cursor
-with_cursor supplier seen cursors =
-    cursor_at (position (is_of_supplier supplier) cursors) (record { supplier = supplier; seen = seen }) cursors
+-- the cursors after one moved to a number: each supplier keeps its place, and a new one comes last
+unfoldable pub with_cursor : ReplicaId → ℕ → List (ReplicaId × ℕ) → List (ReplicaId × ℕ)
+with_cursor supplier seen cursors = insert_entry is_id cursors supplier seen
 
 -- ---- which of two writes is newer
 

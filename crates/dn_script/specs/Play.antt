@@ -29,7 +29,7 @@ unfoldable pub opening : Script
 opening = record { names = []; world = record { replicas = []; zones = []; packets = [] }; moment = 36000000000 }
 
 abbrev pub is_named : List ℕ → List ℕ → Bool
-is_named name other = pointwise nat_eq other name
+is_named name other = pointwise nat_eq name other
 
 -- the number of the replica of a name
 unfoldable pub number_of : Script → List ℕ → Option ℕ

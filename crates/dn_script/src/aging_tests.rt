@@ -66,6 +66,26 @@ pass a x
 pass a x
 ";
 
+// The same with one record and nothing else.
+const ONE_RECORD: &str = "\
+admin a x aging on
+admin a x add a.x 3600 A 10.0.0.1 hour 1000
+at 48060000000000
+pass a x
+at 48096000000000
+pass a x
+ask a a.x A
+";
+
+const ONE_RECORD_PRINTS: &str = "\
+ok 1
+ok 1
+finished start 4 end 4 removed 0 entombed 0 deleted 0 skipped 0
+finished start 4 end 5 removed 1 entombed 1 deleted 0 skipped 0
+status NXDOMAIN aa 1 tc 0 answer 0 authority 1 additional 0
+x 3600 SOA ns1.x admin.x 6 900 600 86400 3600
+";
+
 const STORY_PRINTS: &str = "\
 not due
 ok 1
@@ -84,10 +104,11 @@ finished start 7 end 7 removed 0 entombed 0 deleted 0 skipped 0
 ";
 
 // Each script is that of the zone and these lines.
-const SCRIPTS: [(&str, &str, Status); 8] = [
+const SCRIPTS: [(&str, &str, Status); 9] = [
     (COMMANDS, COMMANDS_PRINT, Status::BadLine(12)),
     (STAMPS, "ok 1\nok 0\nok 1\nok 0\n", Status::BadLine(8)),
     (STORY, STORY_PRINTS, Status::Done),
+    (ONE_RECORD, ONE_RECORD_PRINTS, Status::Done),
     ("admin a x refresh 87601\n", "", Status::BadLine(4)),
     ("admin a x aging\n", "", Status::BadLine(4)),
     (

@@ -1,6 +1,6 @@
-ghost use Rattle.std.specs.Prelude.{◌≡◌, ◌<◌, find, length, map, option_copied, position, IfOk, IfSome};
+ghost use Rattle.std.specs.Prelude.{◌≡◌, map, IfOk};
 ghost use Rattle.dn_store.specs.Table.{write_of};
-ghost use Rattle.dn_script.specs.Merge.{changes_of, cursor_of, is_of_supplier, with_cursor};
+ghost use Rattle.dn_script.specs.Merge.{changes_of};
 
 use dn_io::{Duplicate, List, OutOfMemory};
 use dn_name::Name;
@@ -8,19 +8,6 @@ use dn_stamp::ReplicaId;
 use dn_store::{Table, Unit, Write};
 use std::alloc::Global;
 use std::marker::Model;
-
-/// Up to which number of a supplier's changes a zone has taken.
-#[derive(Clone, Copy)]
-pub struct Cursor {
-    pub supplier: ReplicaId,
-    pub seen: u64,
-}
-
-impl Duplicate for Cursor {
-    fn copy(&self, _alloc: Global) -> Result<Self, OutOfMemory> {
-        Ok(*self)
-    }
-}
 
 /// The changes of a zone on its supplier above one number and up to another.
 #[derive(Drop)]
@@ -64,52 +51,6 @@ pub struct Post {
 
 /// The most bytes of units in a packet of changes.
 const CHANGES_ROOM: usize = 64_000;
-
-fn cursor_among<'a>(supplier: ReplicaId, cursors: &'a [Cursor]) -> Option<&'a Cursor>
-    ensures { option_copied result ≡ find (is_of_supplier supplier) cursors.now }
-{
-    cursors.iter().find(|cursor| cursor.supplier == supplier)
-}
-
-/// The cursor of a supplier, 0 where there is none.
-#[tactic(auto, unfolding(crate::specs::Merge::cursor_of))]
-pub fn cursor_of(supplier: ReplicaId, cursors: &[Cursor]) -> u64
-    ensures { result ≡ cursor_of supplier cursors.now }
-{
-    match cursor_among(supplier, cursors) {
-        Some(cursor) => cursor.seen,
-        None => 0,
-    }
-}
-
-/// The cursors after one moved to a number.
-#[tactic(auto, unfolding(crate::specs::Merge::with_cursor))]
-pub fn with_cursor(
-    alloc: Global,
-    supplier: ReplicaId,
-    seen: u64,
-    cursors: &List<Cursor>,
-) -> Result<List<Cursor>, OutOfMemory>
-    ensures { IfOk result (λ moved. moved ≡ with_cursor supplier seen cursors.now) }
-{
-    let mut moved = cursors.copy(alloc)?;
-    let cursor = Cursor { supplier, seen };
-    match place_of(supplier, cursors.as_slice()) {
-        Some(at) => moved.set(at, cursor),
-        None => moved.push(cursor)?,
-    }
-    Ok(moved)
-}
-
-/// The place of a supplier's cursor.
-fn place_of(supplier: ReplicaId, cursors: &[Cursor]) -> Option<usize>
-    ensures place { result ≡ position (is_of_supplier supplier) cursors.now }
-    ensures within { IfSome result (λ at. at < length cursors.now) }
-{
-    cursors
-        .iter()
-        .position(|cursor| cursor.supplier == supplier)
-}
 
 /// The units as writes, in memory of their own.
 fn writes_of(alloc: Global, units: &[Unit]) -> Result<List<Write>, OutOfMemory>

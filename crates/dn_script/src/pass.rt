@@ -263,6 +263,7 @@ fn looked_at<'a>(
 ) -> Result<Vec<&'a Unit>, OutOfMemory>
     ensures { IfOk result (λ looked. map (λ unit. unit.now) looked.items ≡ looked_at after most table.now.0) }
 {
+    // What a table is, as its change count tells: keys in order, values that fit, at most 2^63 changes.
     let _top = table.top();
     let mut looked = Vec::new(alloc);
     let mut next = table.next_after(after.as_ref());
@@ -354,6 +355,7 @@ pub fn step(
     ensures keys { IfOk result (λ plan. KeysDiffer (writes_of plan)) }
     ensures values { IfOk result (λ plan. AllByRecursion (λ write. IsTrue (fits write.value)) (writes_of plan)) }
 {
+    // What a table is, as its change count tells: keys in order, values that fit, at most 2^63 changes.
     let _top = table.top();
     let props_usn = props_number(table);
     if pass.start < props_usn {

@@ -67,6 +67,7 @@ pub fn rows_of(alloc: Global, table: &Table) -> Result<List<Owned>, OutOfMemory>
     ensures { IfOk result (λ rows. rows ≡ rows_of table.now.0) }
 {
     let mut rows = List::new(alloc);
+    // What a table is, as its change count tells: keys in order, values that fit, at most 2^63 changes.
     let _top = table.top();
     let mut next = table.next_after(None);
     for _at in 0..table.count() {

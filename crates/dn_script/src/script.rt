@@ -1,12 +1,12 @@
 ghost use Rattle.std.specs.Prelude.{◌≡◌};
-ghost use Rattle.std.specs.List.{list_any};
-ghost use Rattle.dn_script.specs.Play.{is_named, number_of, opening, output_of, run_event, run_line, step_text};
+ghost use Rattle.dn_script.specs.Play.{number_of, opening, output_of, run_event, run_line, step_text};
 ghost use Rattle.dn_script.specs.Stepped.{Steps};
 ghost use Rattle.dn_script.specs.Words.{Reads};
 
 use crate::bad::Bad;
 use crate::event::{AdminCmd, Event};
 use crate::line::{ScriptLine, line_of};
+use crate::names::Names;
 use crate::passes::whole_pass;
 use crate::print::{answer_line, packet_line};
 use crate::print_reply::reply_text;
@@ -20,7 +20,7 @@ use std::alloc::Global;
 /// A script so far: the names of its replicas in the order of their numbers, the world, and the moment.
 #[derive(Drop)]
 pub struct Script {
-    pub names: List<List<u8>>,
+    pub names: Names,
     pub world: World,
     pub moment: Moment,
 }
@@ -46,7 +46,7 @@ impl Script {
         ensures { result ≡ opening }
     {
         Script {
-            names: List::new(alloc),
+            names: Names::new(alloc),
             world: World {
                 replicas: List::new(alloc),
                 zones: List::new(alloc),
@@ -61,25 +61,14 @@ impl Script {
     fn number_of(&self, name: &[u8]) -> Option<usize>
         ensures { result ≡ number_of self.now name.now }
     {
-        self.names
-            .as_slice()
-            .iter()
-            .position(|other| other.as_slice() == name)
-    }
-
-    fn has_name(&self, name: &[u8]) -> bool
-        ensures { result ≡ list_any (is_named name.now) self.now.names }
-    {
-        self.names
-            .as_slice()
-            .iter()
-            .any(|other| other.as_slice() == name)
+        self.names.number_of(name)
     }
 
     /// One event of the world, with its line of output.
     #[tactic(auto, unfolding(crate::specs::Play::run_event))]
     fn run_event(&mut self, alloc: Global, event: &WorldEvent) -> Result<List<u8>, Bad>
-        ensures { Steps result self.new (run_event self.old event.now) }
+        ensures step { Steps result self.new (run_event self.old event.now) }
+        ensures names { self.new.names ≡ self.old.names }
     {
         let answer = self.world.step(alloc, event)?;
         output_of(alloc, answer)
@@ -95,7 +84,7 @@ impl Script {
     ) -> Result<List<u8>, Bad>
         ensures { Steps result self.new (run_line self.old (ScriptLine.Replica name id host)) }
     {
-        if self.has_name(name.as_slice()) {
+        if self.names.has(name.as_slice()) {
             return Err(Bad::Line);
         }
         let output = self.run_event(alloc, &WorldEvent::Replica { id, host })?;

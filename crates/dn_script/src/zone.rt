@@ -32,9 +32,10 @@ ghost use Rattle.dn_script.specs.Zone.{
 };
 
 use crate::answer::answer_of;
+use crate::cursors::Cursors;
 use crate::event::{AdminCmd, AdminDone, Answer, Event, Limit};
 use crate::node::with_added;
-use crate::packet::{Changes, Cursor, Packet, changes_of, cursor_of, with_cursor};
+use crate::packet::{Changes, Packet, changes_of};
 use crate::pass::{Pass, StepPlan, begin, step};
 use crate::reply::Reply;
 use crate::rows::rows_of;
@@ -72,7 +73,7 @@ pub struct Zone {
     pub apex: Name,
     pub table: Table,
     /// Up to which number of each supplier's changes it has taken.
-    pub cursors: List<Cursor>,
+    pub cursors: Cursors,
     /// The pass that runs.
     pub pass: Option<Pass>,
 }
@@ -165,7 +166,7 @@ impl Zone {
             host,
             apex,
             table,
-            cursors: List::new(alloc),
+            cursors: Cursors::new(alloc),
             pass: None,
         })
     }
@@ -183,7 +184,7 @@ impl Zone {
             host,
             apex: apex.lower(),
             table: Table::empty(alloc)?,
-            cursors: List::new(alloc),
+            cursors: Cursors::new(alloc),
             pass: None,
         })
     }
@@ -230,6 +231,7 @@ impl Zone {
     fn with_pass(&self, alloc: Global, pass: Option<Pass>) -> Result<Zone, OutOfMemory>
         ensures { IfOk result (λ zone. zone ≡ with_pass self.now pass) }
     {
+        // What a table is, as its change count tells: keys in order, values that fit, at most 2^63 changes.
         let _top = self.table.top();
         self.after(alloc, &List::new(alloc), pass)
     }
@@ -448,13 +450,13 @@ impl Zone {
         requires count { self.now.table.1 + length won.now ≤ 2 ^ 63 }
         ensures { IfOk result (λ zone. zone ≡ moved self.now changes.now won.now) }
     {
-        let seen = cursor_of(changes.supplier, self.cursors.as_slice()).max(changes.to);
+        let seen = self.cursors.of(changes.supplier).max(changes.to);
         Ok(Zone {
             id: self.id,
             host: self.host,
             apex: self.apex,
             table: self.table.put(won)?,
-            cursors: with_cursor(alloc, changes.supplier, seen, &self.cursors)?,
+            cursors: self.cursors.with(alloc, changes.supplier, seen)?,
             pass: self.pass,
         })
     }
@@ -467,7 +469,7 @@ impl Zone {
     pub fn merge(&self, alloc: Global, changes: &Changes) -> Result<Acted, OutOfMemory>
         ensures { IfOk result (λ acted. Acts acted self.now (merge_step self.now changes.now)) }
     {
-        let cursor = cursor_of(changes.supplier, self.cursors.as_slice());
+        let cursor = self.cursors.of(changes.supplier);
         if cursor < changes.from {
             return Ok(Acted::Same(Answer::Gap {
                 cursor,
@@ -490,7 +492,7 @@ impl Zone {
         Packet::Pull {
             zone: self.apex,
             from_id: self.id,
-            after: cursor_of(supplier, self.cursors.as_slice()),
+            after: self.cursors.of(supplier),
         }
     }
 

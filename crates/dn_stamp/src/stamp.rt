@@ -5,7 +5,7 @@ ghost use Rattle.dn_stamp.specs.Stamp.{first_stamp, next_stamp};
 const LAST_VERSION: u32 = 4_294_967_294;
 
 /// The identity of a replica.
-#[derive(Clone, Copy, Debug, PartialEq, Eq, PartialOrd, Ord)]
+#[derive(Clone, Copy, Debug, PartialEq, Eq, Hash, PartialOrd, Ord)]
 pub struct ReplicaId(pub [u8; 16]);
 
 /// The stamp of a write, which decides between two writes of one unit: the greater version, then the later second, then
