@@ -1,3 +1,3 @@
-pub mod Pieces
-pub mod Splits
-pub mod Steps
+pub mod LineEndLemmas
+pub mod LineReaderLemmas
+pub mod PieceLemmas

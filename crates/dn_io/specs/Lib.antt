@@ -1,5 +1,8 @@
 pub mod Lines
 pub mod Memory
+pub mod Moments
+pub mod Options
 pub mod Outside
 pub mod Reading
 pub mod Status
+pub mod Stepping

@@ -1,10 +1,10 @@
 -- What contracts see of the sources and sinks.
 use Rattle.std.specs.Prelude.{ℕ, ◌==◌, Bool, List, Option, Some}
 use Rattle.std.specs.List.{list_any}
-use Rattle.dn_io.specs.declared.source.MemSource.{MemSource}
 use Rattle.dn_io.specs.declared.sink.MemSink.{MemSink}
-use Rattle.dn_io.specs.declared.standard.StdSource.{StdSource}
+use Rattle.dn_io.specs.declared.source.MemSource.{MemSource}
 use Rattle.dn_io.specs.declared.standard.StdSink.{StdSink}
+use Rattle.dn_io.specs.declared.standard.StdSource.{StdSource}
 use Rattle.dn_io.specs.declared.sure.SureSource.{SureSource}
 
 -- the bytes that are left

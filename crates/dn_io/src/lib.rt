@@ -23,6 +23,3 @@ pub use source::MemSource;
 pub use standard::{StdSink, StdSource};
 pub use status::Status;
 pub use sure::{SureSink, SureSource};
-
-#[cfg(test)]
-mod tests;

@@ -8,10 +8,10 @@ use crate::{List, OutOfMemory, Source};
 use std::alloc::Global;
 use std::marker::Model;
 
-/// The most bytes of a line before its line feed.
+// The most bytes of a line before its line feed.
 pub const MAX_LINE: usize = 200_000;
 
-/// The last byte of the input that a line may reach.
+// The last byte of the input that a line may reach.
 pub const MAX_INPUT: u64 = 1 << 30;
 
 // How many bytes one read asks for.

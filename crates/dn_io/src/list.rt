@@ -112,12 +112,35 @@ impl List<u8> {
     }
 }
 
+impl<T: Duplicate + Drop> List<T> {
+    /// The list of copies of items.
+    ///
+    /// # Errors
+    /// `OutOfMemory`.
+    pub fn from_slice(alloc: Global, items: &[T]) -> Result<Self, OutOfMemory>
+        ensures { IfOk result (λ list. list ≡ items.now) }
+    {
+        let mut list = List::new(alloc);
+        list.extend_copies(alloc, items)?;
+        Ok(list)
+    }
+
+    /// Adds copies of items at the end.
+    ///
+    /// # Errors
+    /// `OutOfMemory`; some of the items may then have been added.
+    pub fn extend_copies(&mut self, alloc: Global, items: &[T]) -> Result<(), OutOfMemory>
+        ensures { OnOk result (self.new ≡ self.old ++ items.now) }
+    {
+        for item in items {
+            self.push(item.copy(alloc)?)?;
+        }
+        Ok(())
+    }
+}
+
 impl<T: Duplicate + Drop> Duplicate for List<T> {
     fn copy(&self, alloc: Global) -> Result<Self, OutOfMemory> {
-        let mut copy = List::new(alloc);
-        for item in self.as_slice() {
-            copy.push(item.copy(alloc)?)?;
-        }
-        Ok(copy)
+        List::from_slice(alloc, self.as_slice())
     }
 }

@@ -15,7 +15,7 @@ pub struct Addr {
 #[derive(Clone, Copy, Debug, PartialEq, Eq)]
 pub struct Failed;
 
-/// The end of a count of faults.
+// The end of a count of faults.
 const MOST_FAULTS: u64 = 1 << 63;
 
 // The count after one fault more.

@@ -4,7 +4,7 @@ use crate::outside::raised;
 use crate::{Failed, List, Source};
 use std::marker::Model;
 
-/// Bytes that are read from front to back, as contracts see them those that are left.
+// Bytes that are read from front to back, as contracts see them those that are left.
 #[derive(Drop)]
 pub(crate) struct Unread {
     bytes: List<u8>,
@@ -28,7 +28,7 @@ impl Unread {
         Unread { bytes, at: 0 }
     }
 
-    /// Moves as many bytes as are left, or as the buffer takes, to the buffer's front.
+    // Moves as many bytes as are left, or as the buffer takes, to the buffer's front.
     pub(crate) fn read(&mut self, buf: &mut [u8]) -> usize
         ensures bound { result ≤ length buf.new }
         ensures bytes { self.old ≡ take result buf.new ++ self.new }

@@ -1,12 +1,12 @@
 -- Reading the text of a name gives the name.
 use Rattle.std.proofs.Common.{◌≡◌, ℕ, ◌+◌, ◌-◌, ◌*◌, ◌/◌, ◌%◌, ◌≤◌, ◌<◌, ◌&&◌, Bool, true, false, nat_eq, nat_le, cond, List, [], ◌∷◌, ◌++◌, length, Some, refl, sym, ◌∙◌, ap, arith, append_assoc, append-nil}
-use lib.Pointwise.{pointwise}
 use Rattle.std.specs.List.{AllByRecursion}
 use Rattle.std.proofs.lemmas.Bool.Decides.{nat_tests}
-use Rattle.dn_name.specs.Name.{IsLabel}
-use Rattle.dn_name.specs.Text.{Outside, Begun, is_digit, is_plain, three_digits, byte_text, label_text, dotted, AllBytes, IsReadBack}
+use lib.Pointwise.{pointwise}
+use Rattle.dn_name.specs.Name.{Labels, IsLabel}
 use Rattle.dn_name.specs.Reading.{byte_in, completed}
-use Rattle.dn_name.proofs.Reading.{reads_byte, reads_dot, reads_end, reads_all, begins, wire_len_least}
+use Rattle.dn_name.specs.Text.{Outside, Begun, is_digit, is_plain, three_digits, byte_text, label_text, dotted, AllBytes, IsReadBack}
+use Rattle.dn_name.proofs.TextReadingLemmas.{reads_byte, reads_dot, reads_end, reads_all, begins, wire_len_least}
 
 digit : (d : ℕ) → d ≤ 9 → is_digit (48 + d) ≡ true
 digit d small =
@@ -37,7 +37,7 @@ text_in b rest small =
     let P : Bool → Type 0 = λ v. is_plain b ≡ v → Some (b, rest) ≡ byte_in Outside (cond v (b ∷ []) (92 ∷ three_digits b) ++ rest) in
     elim (is_plain b) as P [ true ↦ λ plain. sym (plain_in b rest plain) | false ↦ λ escaped. sym (escaped_in b rest small) ] refl
 
-by_label : (done : List (List ℕ)) (front label rest : List ℕ) → AllByRecursion (λ byte. byte < 256) label
+by_label : (done : Labels) (front label rest : List ℕ) → AllByRecursion (λ byte. byte < 256) label
     → completed done front (label_text label ++ rest) ≡ completed done (front ++ label) rest
 by_label done front [] rest all = ap (λ x. completed done x rest) (sym (append-nil front))
 by_label done front (b ∷ label) rest all =
@@ -46,7 +46,7 @@ by_label done front (b ∷ label) rest all =
     ∙ by_label done (front ++ (b ∷ [])) label rest all.1
     ∙ ap (λ x. completed done x rest) (append_assoc front (b ∷ []) label)
 
-by_name : (done : List (List ℕ)) (label : List ℕ) (name : List (List ℕ)) → AllByRecursion IsLabel (label ∷ name) → AllBytes (label ∷ name)
+by_name : (done : Labels) (label : List ℕ) (name : Labels) → AllByRecursion IsLabel (label ∷ name) → AllBytes (label ∷ name)
     → completed done [] (label_text label ++ dotted name) ≡ completed (done ++ (label ∷ name)) [] []
 by_name done label [] labels all = by_label done [] label [] all.0 ∙ reads_end done label labels.0.0
 by_name done label (next ∷ name) labels all =

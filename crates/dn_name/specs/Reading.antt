@@ -1,6 +1,6 @@
 -- How a text is read label by label: what one byte of a label takes, and what the rest of a text completes.
 use Rattle.std.specs.Prelude.{◌≡◌, ℕ, ◌+◌, ◌-◌, ◌*◌, ◌≤◌, ◌<◌, ◌&&◌, nat_eq, nat_le, if◌then◌else◌, List, [], ◌∷◌, ◌++◌, length, Option, None, Some, option_and_then}
-use Rattle.dn_name.specs.Name.{wire_len, IsLabel}
+use Rattle.dn_name.specs.Name.{Labels, wire_len, IsLabel}
 use Rattle.dn_name.specs.Text.{Escape, Outside, Begun, OneDigit, TwoDigits, is_digit, symbols_from, labels_between, without_last_empty, name_if}
 
 -- the byte of a label that a text spells at its front, and the text behind it; none for a dot
@@ -22,12 +22,12 @@ byte_in (TwoDigits n) (b ∷ text) =
     if is_digit b && nat_le (10 * n + (b - 48)) 255 then Some (10 * n + (b - 48), text) else None
 
 -- the labels with these bytes before the first of them
-abbrev pub glued : List ℕ → List (List ℕ) → List (List ℕ)
+abbrev pub glued : List ℕ → Labels → Labels
 glued bytes [] = bytes ∷ []
 glued bytes (label ∷ labels) = (bytes ++ label) ∷ labels
 
 -- the name that a text completes whose front spelled these labels and the first bytes of another
-unfoldable pub completed : List (List ℕ) → List ℕ → List ℕ → Option (List (List ℕ))
+unfoldable pub completed : Labels → List ℕ → List ℕ → Option Labels
 completed done label text =
     option_and_then (λ symbols. name_if (without_last_empty (done ++ glued label (labels_between symbols)))) (symbols_from Outside text)
 
@@ -36,19 +36,19 @@ pub record IsPart (text label rest : List ℕ) : Type 0 where
   pub most : length label ≤ 63
   pub less : length rest ≤ length text
   pub some : 1 ≤ length text → 1 ≤ length label + length rest
-  pub same : (done : List (List ℕ)) → completed done [] text ≡ completed done label rest
+  pub same : (done : Labels) → completed done [] text ≡ completed done label rest
 
 -- a text whose front spells the label, and what stands behind the label's dot
 pub record IsRead (room : ℕ) (text label rest : List ℕ) : Type 0 where
   pub sized : IsLabel label
   pub fits : length label + 1 ≤ room
   pub less : length rest < length text
-  pub same : (done : List (List ℕ)) → completed done [] text ≡ completed (done ++ (label ∷ [])) [] rest
+  pub same : (done : Labels) → completed done [] text ≡ completed (done ++ (label ∷ [])) [] rest
 
 -- a text that completes no name
 abbrev pub IsHopeless : List ℕ → Type 0
-IsHopeless text = (done : List (List ℕ)) → completed done [] text ≡ None
+IsHopeless text = (done : Labels) → completed done [] text ≡ None
 
 -- a text that completes no name behind labels that leave so much room
 abbrev pub IsUnread : ℕ → List ℕ → Type 0
-IsUnread room text = (done : List (List ℕ)) → 255 ≤ wire_len done + room → completed done [] text ≡ None
+IsUnread room text = (done : Labels) → 255 ≤ wire_len done + room → completed done [] text ≡ None

@@ -1,8 +1,8 @@
 -- Names as text (RFC 1035 5.1): labels joined by dots, and `\DDD` or `\` before a byte that would be read otherwise.
 use Rattle.std.specs.Prelude.{◌≡◌, ℕ, ◌+◌, ◌-◌, ◌*◌, ◌/◌, ◌%◌, ◌<◌, Bool, ◌&&◌, ◌||◌, nat_eq, nat_le, if◌then◌else◌, List, [], ◌∷◌, ◌++◌, flat_map, Option, None, Some, option_map, option_and_then}
-use lib.Pointwise.{pointwise}
 use Rattle.std.specs.List.{AllByRecursion}
-use Rattle.dn_name.specs.Name.{IsName, is_name}
+use lib.Pointwise.{pointwise}
+use Rattle.dn_name.specs.Name.{Labels, IsName, is_name}
 
 abbrev pub is_digit : ℕ → Bool
 is_digit byte = nat_le 48 byte && nat_le byte 57
@@ -24,12 +24,12 @@ abbrev pub label_text : List ℕ → List ℕ
 label_text label = flat_map byte_text label
 
 -- each label after a dot
-abbrev pub dotted : List (List ℕ) → List ℕ
+abbrev pub dotted : Labels → List ℕ
 dotted [] = []
 dotted (label ∷ name) = 46 ∷ label_text label ++ dotted name
 
 -- the labels with a dot between each two; the root is one dot
-abbrev pub text_of : List (List ℕ) → List ℕ
+abbrev pub text_of : Labels → List ℕ
 text_of [] = 46 ∷ []
 text_of (label ∷ name) = label_text label ++ dotted name
 
@@ -69,31 +69,31 @@ symbols_from (OneDigit n) (b ∷ text) =
 symbols_from (TwoDigits n) (b ∷ text) =
     if is_digit b && nat_le (10 * n + (b - 48)) 255 then then_symbol (Byte (10 * n + (b - 48))) (symbols_from Outside text) else None
 
-abbrev pub on_first : ℕ → List (List ℕ) → List (List ℕ)
+abbrev pub on_first : ℕ → Labels → Labels
 on_first byte [] = (byte ∷ []) ∷ []
 on_first byte (label ∷ labels) = (byte ∷ label) ∷ labels
 
 -- the labels between the dots, empty ones too
-abbrev pub labels_between : List Symbol → List (List ℕ)
+abbrev pub labels_between : List Symbol → Labels
 labels_between [] = [] ∷ []
 labels_between (Dot ∷ symbols) = [] ∷ labels_between symbols
 labels_between (Byte byte ∷ symbols) = on_first byte (labels_between symbols)
 
 -- without the empty label behind a final dot
-abbrev pub without_last_empty : List (List ℕ) → List (List ℕ)
+abbrev pub without_last_empty : Labels → Labels
 without_last_empty [] = []
 without_last_empty ([] ∷ []) = []
 without_last_empty ((byte ∷ bytes) ∷ []) = (byte ∷ bytes) ∷ []
 without_last_empty (label ∷ next ∷ labels) = label ∷ without_last_empty (next ∷ labels)
 
 -- labels that make a name other than the root
-abbrev pub name_if : List (List ℕ) → Option (List (List ℕ))
+abbrev pub name_if : Labels → Option Labels
 name_if [] = None
 name_if (label ∷ labels) = if is_name (label ∷ labels) then Some (label ∷ labels) else None
 
 -- The name that a text spells, if it spells one. All names are absolute, and one final dot may be written; a dot alone
 -- is the root.
-abbrev pub name_of_text : List ℕ → Option (List (List ℕ))
+abbrev pub name_of_text : List ℕ → Option Labels
 name_of_text text =
     if pointwise nat_eq text (46 ∷ []) then Some []
     else option_and_then (λ symbols. name_if (without_last_empty (labels_between symbols))) (symbols_from Outside text)
@@ -101,9 +101,9 @@ name_of_text text =
 -- ---- reading what was printed
 
 -- each byte of the name is below 256
-abbrev pub AllBytes : List (List ℕ) → Type 0
+abbrev pub AllBytes : Labels → Type 0
 AllBytes name = AllByRecursion (λ label. AllByRecursion (λ byte. byte < 256) label) name
 
 -- the text of each name spells that name
 abbrev pub IsReadBack : Type 0
-IsReadBack = (name : List (List ℕ)) → IsName name → AllBytes name → name_of_text (text_of name) ≡ Some name
+IsReadBack = (name : Labels) → IsName name → AllBytes name → name_of_text (text_of name) ≡ Some name

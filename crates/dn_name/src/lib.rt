@@ -10,8 +10,3 @@ mod wire;
 pub use error::{NameError, NameFault, NoRoom};
 pub use name::Name;
 pub use text::text_is_read_back;
-
-#[cfg(test)]
-mod tests;
-#[cfg(test)]
-mod text_tests;

@@ -1,5 +1,5 @@
 ghost use Rattle.std.specs.Prelude.{◌≡◌, [], ◌∷◌, ◌++◌, length, nat_le, if◌then◌else◌, None, Some};
-ghost use Rattle.dn_name.specs.Name.{IsLabel, IsName, lowered, parent_of, wire_len, wire_of};
+ghost use Rattle.dn_name.specs.Name.{Labels, IsLabel, IsName, lowered, parent_of, wire_len, wire_of};
 ghost use Rattle.dn_name.specs.Walk.{IsWhole};
 ghost use Rattle.dn_name.specs.Wire.{labels_in};
 
@@ -15,10 +15,9 @@ pub struct Name {
 }
 
 impl Model for Name {
-    ghost use Rattle.std.specs.Prelude.{ℕ, List};
-    ghost use Rattle.dn_name.specs.Name.{wire_len};
+    ghost use Rattle.dn_name.specs.Name.{Labels, wire_len};
 
-    ghost Value = { List (List ℕ) };
+    ghost Value = { Labels };
 
     ghost use Rattle.dn_name.specs.Wire.{IsWire, labels_in, padded, wire_again};
 
@@ -84,7 +83,7 @@ impl Name {
         Some(Name::from_wire(rest))
     }
 
-    /// The name on the wire: each label after its length, and a zero byte.
+    // The name on the wire: each label after its length, and a zero byte.
     pub(crate) fn wire(&self) -> &[u8]
         ensures wire { result.now ≡ wire_of self.now }
         ensures len { length result.now ≡ wire_len self.now }
@@ -93,7 +92,7 @@ impl Name {
         &self.wire[..usize::from(self.len)]
     }
 
-    /// The name with a label more below the root; none where it would pass 255 bytes.
+    // The name with a label more below the root; none where it would pass 255 bytes.
     pub(crate) fn pushed(&self, label: &[u8]) -> Option<Name>
         requires { IsLabel label.now }
         ensures { result ≡ (if nat_le (wire_len (self.now ++ label.now ∷ [])) 255 then Some (self.now ++ label.now ∷ []) else None) }
@@ -112,7 +111,7 @@ impl Name {
         })
     }
 
-    /// The name that the bytes are.
+    // The name that the bytes are.
     pub(crate) fn from_wire(bytes: &[u8]) -> Name
         requires { IsWhole bytes.now }
         ensures { result ≡ labels_in 128 bytes.now }

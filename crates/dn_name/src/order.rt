@@ -1,9 +1,9 @@
 //! Names compared: their letters in either case are the same (RFC 4343).
 
-ghost use Rattle.std.specs.Prelude.{◌≡◌, ◌↔◌, ℕ, IsTrue, List, length};
+ghost use Rattle.std.specs.Prelude.{◌≡◌, ◌↔◌, IsTrue, length};
 ghost use Rattle.std.specs.List.{AllByRecursion};
 ghost use Rattle.std.specs.Ordering.{ordering_then};
-ghost use Rattle.dn_name.specs.Name.{IsLabel, IsUnder, is_same, is_under, lowered, order, wire_of};
+ghost use Rattle.dn_name.specs.Name.{Labels, IsLabel, IsUnder, is_same, is_under, lowered, order, wire_of};
 ghost use Rattle.dn_name.specs.Walk.{ends_in, order_of};
 
 use crate::name::Name;
@@ -44,9 +44,9 @@ impl Name {
     }
 }
 
-/// Whether the labels of the apex stand at the end of the name's, both on the wire.
+// Whether the labels of the apex stand at the end of the name's, both on the wire.
 fn ends_with(wire: &[u8], apex: &[u8]) -> bool
-    ensures { (name above : List (List ℕ)) → AllByRecursion IsLabel name → AllByRecursion IsLabel above → wire.now ≡ wire_of name → apex.now ≡ wire_of above → result ≡ ends_in name above }
+    ensures { (name above : Labels) → AllByRecursion IsLabel name → AllByRecursion IsLabel above → wire.now ≡ wire_of name → apex.now ≡ wire_of above → result ≡ ends_in name above }
 {
     if wire == apex {
         return true;
@@ -57,10 +57,10 @@ fn ends_with(wire: &[u8], apex: &[u8]) -> bool
     }
 }
 
-/// The order of names of as many labels, on the wire, by their labels from the last to the first; where these are
-/// equal, the one that is given.
+// The order of names of as many labels, on the wire, by their labels from the last to the first; where these are
+// equal, the one that is given.
 fn compare_labels(left: &[u8], right: &[u8], otherwise: Ordering) -> Ordering
-    ensures { (name other : List (List ℕ)) → AllByRecursion IsLabel name → AllByRecursion IsLabel other → length name ≡ length other → left.now ≡ wire_of name → right.now ≡ wire_of other → result ≡ ordering_then (order_of name other) otherwise }
+    ensures { (name other : Labels) → AllByRecursion IsLabel name → AllByRecursion IsLabel other → length name ≡ length other → left.now ≡ wire_of name → right.now ≡ wire_of other → result ≡ ordering_then (order_of name other) otherwise }
 {
     match (split_label(left), split_label(right)) {
         (Some((label, left)), Some((other, right))) => {

@@ -10,7 +10,7 @@ use crate::error::{NameError, NameFault};
 use crate::name::Name;
 use crate::wire::split_label;
 
-/// The bytes of one label.
+// The bytes of one label.
 #[derive(Clone, Copy)]
 struct Label {
     bytes: [u8; 63],
@@ -75,8 +75,8 @@ pub fn text_is_read_back()
     ensures { IsReadBack }
 {}
 
-/// Reads a label and the dot behind it, if one stands there, at the front of the rest of a text, where the whole text
-/// has so many bytes, and the label may take so many bytes on the wire, its length included.
+// Reads a label and the dot behind it, if one stands there, at the front of the rest of a text, where the whole text
+// has so many bytes, and the label may take so many bytes on the wire, its length included.
 fn read_label(text: &[u8], whole: usize, room: usize) -> Result<(Label, &[u8]), NameError>
     requires some { 1 ≤ length text.now }
     requires within { length text.now ≤ whole }
@@ -109,8 +109,8 @@ fn read_label(text: &[u8], whole: usize, room: usize) -> Result<(Label, &[u8]), 
     })
 }
 
-/// The bytes of a label at the front of the text, and the text behind them, which begins with none; none where there
-/// are more than 63.
+// The bytes of a label at the front of the text, and the text behind them, which begins with none; none where there
+// are more than 63.
 fn read_bytes(text: &[u8]) -> Option<(Label, &[u8])>
     ensures part { MatchOption result (IsHopeless text.now) (λ found. IsPart text.now (take found.0.len found.0.bytes) found.1.now) }
     ensures len { IfSome result (λ found. length (take found.0.len found.0.bytes) ≡ found.0.len) }
@@ -132,8 +132,8 @@ fn read_bytes(text: &[u8]) -> Option<(Label, &[u8])>
     Some((label, rest))
 }
 
-/// The byte of a label at the front of the text, and the text behind it; none where no such byte is spelled, as at a
-/// dot.
+// The byte of a label at the front of the text, and the text behind it; none where no such byte is spelled, as at a
+// dot.
 fn spelled_byte(text: &[u8]) -> Option<(u8, &[u8])>
     ensures less { IfSome result (λ found. length found.1.now < length text.now) }
     ensures byte { option_map (λ found. (found.0, found.1.now)) result ≡ byte_in Outside text.now }
@@ -147,7 +147,7 @@ fn spelled_byte(text: &[u8]) -> Option<(u8, &[u8])>
     }
 }
 
-/// The byte behind a backslash.
+// The byte behind a backslash.
 fn escaped_byte(text: &[u8]) -> Option<(u8, &[u8])>
     ensures less { IfSome result (λ found. length found.1.now < length text.now) }
     ensures byte { option_map (λ found. (found.0, found.1.now)) result ≡ byte_in Begun text.now }
@@ -160,7 +160,7 @@ fn escaped_byte(text: &[u8]) -> Option<(u8, &[u8])>
     }
 }
 
-/// The byte whose number began with this digit.
+// The byte whose number began with this digit.
 fn after_one_digit(number: u8, text: &[u8]) -> Option<(u8, &[u8])>
     requires { number ≤ 9 }
     ensures less { IfSome result (λ found. length found.1.now < length text.now) }
@@ -173,7 +173,7 @@ fn after_one_digit(number: u8, text: &[u8]) -> Option<(u8, &[u8])>
     }
 }
 
-/// The byte whose number began with these two digits.
+// The byte whose number began with these two digits.
 fn after_two_digits(number: u8, text: &[u8]) -> Option<(u8, &[u8])>
     requires { number ≤ 99 }
     ensures less { IfSome result (λ found. length found.1.now < length text.now) }
@@ -193,7 +193,7 @@ fn after_two_digits(number: u8, text: &[u8]) -> Option<(u8, &[u8])>
     }
 }
 
-/// Writes a byte of a label as text at a place of the buffer, and answers the place behind.
+// Writes a byte of a label as text at a place of the buffer, and answers the place behind.
 fn write_byte(byte: u8, out: &mut [u8], at: usize) -> usize
     requires { at + 4 ≤ length out.old }
     ensures { Prints at out.old (byte_text byte) result out.new }
@@ -209,14 +209,14 @@ fn write_byte(byte: u8, out: &mut [u8], at: usize) -> usize
     at + 4
 }
 
-/// Whether the byte is written as it is.
+// Whether the byte is written as it is.
 fn is_plain(byte: u8) -> bool
     ensures { result ≡ is_plain byte }
 {
     matches!(byte, b'0'..=b'9' | b'A'..=b'Z' | b'a'..=b'z' | b'-' | b'_' | b'*')
 }
 
-/// Writes a label as text at a place of the buffer, and answers the place behind.
+// Writes a label as text at a place of the buffer, and answers the place behind.
 fn write_label(label: &[u8], out: &mut [u8], start: usize) -> usize
     requires { start + 4 * length label.now ≤ length out.old }
     ensures { Prints start out.old (label_text label.now) result out.new }

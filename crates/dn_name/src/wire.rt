@@ -2,7 +2,7 @@
 
 ghost use Rattle.std.specs.Prelude.{◌≡◌, ◌↔◌, ℕ, ◌+◌, ◌<◌, ◌≤◌, List, ◌++◌, length, take, drop, option_map, Some, IfOk, IfSome, IsOk, OnErr};
 ghost use Rattle.std.specs.List.{AllByRecursion};
-ghost use Rattle.dn_name.specs.Name.{IsLabel, IsName, wire_len, wire_of};
+ghost use Rattle.dn_name.specs.Name.{Labels, IsLabel, IsName, wire_len, wire_of};
 ghost use Rattle.dn_name.specs.Walk.{first_label, first_of};
 ghost use Rattle.dn_name.specs.Wire.{labels_at, plain_name};
 
@@ -33,7 +33,7 @@ impl Name {
     pub fn read_plain(bytes: &[u8]) -> Option<(Name, usize)>
         ensures plain { option_map (λ found. (found.0, drop found.1 bytes.now)) result ≡ plain_name bytes.now }
         ensures spelled { IfSome result (λ found. bytes.now ≡ wire_of found.0 ++ drop found.1 bytes.now) }
-        ensures again { (name : List (List ℕ)) (rest : List ℕ) → IsName name → bytes.now ≡ wire_of name ++ rest → result ≡ Some (name, wire_len name) }
+        ensures again { (name : Labels) (rest : List ℕ) → IsName name → bytes.now ≡ wire_of name ++ rest → result ≡ Some (name, wire_len name) }
     {
         let len = plain_len(bytes, 128)?;
         if len > 255 {
@@ -43,8 +43,8 @@ impl Name {
     }
 }
 
-/// How many bytes the labels at the front take with the zero byte that ends them; none where a label is cut or too
-/// long, or where no zero byte stands behind so many labels.
+// How many bytes the labels at the front take with the zero byte that ends them; none where a label is cut or too
+// long, or where no zero byte stands behind so many labels.
 fn plain_len(bytes: &[u8], most: u8) -> Option<usize>
     ensures len { result ≡ option_map (λ found. wire_len found.0) (labels_at most bytes.now) }
     ensures within { IfSome result (λ len. len ≤ length bytes.now) }
@@ -64,11 +64,11 @@ fn plain_len(bytes: &[u8], most: u8) -> Option<usize>
     Some(usize::from(len) + 1 + behind)
 }
 
-/// The first label of a name on the wire, and the bytes behind it; none at the root.
+// The first label of a name on the wire, and the bytes behind it; none at the root.
 pub(crate) fn split_label(wire: &[u8]) -> Option<(&[u8], &[u8])>
     ensures bytes { option_map (λ parts. (parts.0.now, parts.1.now)) result ≡ first_label wire.now }
     ensures shorter { IfSome result (λ parts. length parts.1.now < length wire.now) }
-    ensures name { (name : List (List ℕ)) → AllByRecursion IsLabel name → wire.now ≡ wire_of name → option_map (λ parts. (parts.0.now, parts.1.now)) result ≡ first_of name }
+    ensures name { (name : Labels) → AllByRecursion IsLabel name → wire.now ≡ wire_of name → option_map (λ parts. (parts.0.now, parts.1.now)) result ≡ first_of name }
 {
     let (&len, rest) = wire.split_first()?;
     if len == 0 {
@@ -77,9 +77,9 @@ pub(crate) fn split_label(wire: &[u8]) -> Option<(&[u8], &[u8])>
     rest.split_at_checked(usize::from(len))
 }
 
-/// The name on the wire without its first labels, at most so many.
+// The name on the wire without its first labels, at most so many.
 pub(crate) fn skip_labels(wire: &[u8], count: u8) -> &[u8]
-    ensures { (name : List (List ℕ)) → AllByRecursion IsLabel name → wire.now ≡ wire_of name → result.now ≡ wire_of (drop count name) }
+    ensures { (name : Labels) → AllByRecursion IsLabel name → wire.now ≡ wire_of name → result.now ≡ wire_of (drop count name) }
 {
     let mut rest = wire;
     for _ in 0..count {

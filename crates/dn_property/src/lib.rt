@@ -6,6 +6,3 @@ mod rules;
 
 pub use property::Property;
 pub use rules::{ZoneRules, is_due, is_stale, refresh_allowed, rules_of};
-
-#[cfg(test)]
-mod tests;

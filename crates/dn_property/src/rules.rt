@@ -4,7 +4,7 @@ ghost use Rattle.dn_property.specs.Rules.{allow_in, allow_of, data_of, has_id, n
 
 use crate::Property;
 
-/// The ids of the properties that are acted on (MS-DNSP 2.3.2.1.1).
+// The ids of the properties that are acted on (MS-DNSP 2.3.2.1.1).
 const ALLOW_UPDATE: u32 = 0x02;
 
 const NOREFRESH_INTERVAL: u32 = 0x10;
@@ -15,7 +15,7 @@ const REFRESH_INTERVAL: u32 = 0x20;
 
 const AGING_STATE: u32 = 0x40;
 
-/// Both intervals in hours, where the zone has none of its own: a week.
+// Both intervals in hours, where the zone has none of its own: a week.
 const DEFAULT_INTERVAL: u32 = 168;
 
 /// What a zone's properties say of updates and of aging.
@@ -39,14 +39,14 @@ fn first_of(id: u32, list: &[Property]) -> Option<&Property>
     list.iter().find(|item| item.id == id)
 }
 
-/// The data of the first property of an id.
+// The data of the first property of an id.
 fn data_of(id: u32, list: &[Property]) -> Option<&[u8]>
     ensures { option_copied result ≡ data_of id list.now }
 {
     Some(first_of(id, list)?.content.as_slice())
 }
 
-/// The number in four bytes, little-endian; none in data of another length.
+// The number in four bytes, little-endian; none in data of another length.
 fn number_in(content: &[u8]) -> Option<u32>
     ensures { result ≡ number_in content.now }
 {
@@ -54,14 +54,14 @@ fn number_in(content: &[u8]) -> Option<u32>
     Some(u32::from_le_bytes(bytes))
 }
 
-/// The number of a property, or the default where there is none.
+// The number of a property, or the default where there is none.
 fn number_or(default: u32, id: u32, list: &[Property]) -> u32
     ensures { result ≡ number_or default id list.now }
 {
     data_of(id, list).and_then(number_in).unwrap_or(default)
 }
 
-/// Which updates the data of one byte or of four says.
+// Which updates the data of one byte or of four says.
 fn allow_in(content: &[u8]) -> u8
     ensures { result ≡ allow_in content.now }
 {

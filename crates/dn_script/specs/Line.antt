@@ -1,25 +1,16 @@
 -- Which line of a script is which command, whatever replicas and zones there are.
-use Rattle.std.specs.Prelude.{ℕ, ◌-◌, ◌^◌, Bool, ◌||◌, nat_le, if◌then◌else◌, List, [], ◌∷◌, codes, Option, None, Some}
-use Rattle.dn_name.specs.Text.{name_of_text}
-use Rattle.dn_script.specs.declared.event.AdminCmd.{AdminCmd}
-use Rattle.dn_script.specs.declared.event.AdminCmd.TheVariants.{Add, AgingOn, AgingOff, NoRefresh, Refresh}
+use Rattle.std.specs.Prelude.{ℕ, if◌then◌else◌, List, [], ◌∷◌, codes, Option, None, Some}
+use Rattle.dn_io.specs.Options.{◌>>=◌}
+use Rattle.dn_rdata.specs.Types.{A}
+use Rattle.dn_text.specs.Moments.{moment_of}
+use Rattle.dn_text.specs.Names.{name_word}
+use Rattle.dn_text.specs.Numbers.{number_within}
+use Rattle.dn_text.specs.Replicas.{id_of, is_replica_name}
+use Rattle.dn_text.specs.Types.{is_type_a}
+use Rattle.dn_text.specs.Words.{is_word}
+use Rattle.dn_admin.specs.Command.{command_of}
 use Rattle.dn_script.specs.declared.line.ScriptLine.{ScriptLine}
 use Rattle.dn_script.specs.declared.line.ScriptLine.TheVariants as lines
-use Rattle.dn_script.specs.Words.{◌>>=◌, address_of, id_of, is_replica_name, is_word, number_within}
-
--- the name that a word is
-unfoldable pub name_word : List ℕ → Option (List (List ℕ))
-name_word word = name_of_text word
-
--- a moment: ticks of 100 ns since 1601-01-01, at least an hour
-unfoldable pub moment_of : List ℕ → Option ℕ
-moment_of word = do
-  ticks ← number_within (2 ^ 64 - 1) word
-  if nat_le 36000000000 ticks then Some ticks else None
-
--- the type A, by its name or its number
-unfoldable pub is_type_a : List ℕ → Bool
-is_type_a word = is_word word (codes "A") || is_word word (codes "TYPE1")
 
 -- `replica R ID HOST`
 unfoldable pub replica_line : List (List ℕ) → Option ScriptLine
@@ -58,57 +49,6 @@ at_line (ticks ∷ []) = do
   Some (lines.At moment)
 at_line words = None
 
--- the command that adds an address at a name, with this hour as its time stamp
-unfoldable pub address_command : List ℕ → List ℕ → List ℕ → ℕ → Option AdminCmd
-address_command name ttl address hour = do
-  its_name ← name_word name
-  its_ttl ← number_within 4294967295 ttl
-  rdata ← address_of address
-  Some (Add its_name its_ttl 1 rdata hour)
-
--- `hour H`, or nothing for a record that doesn't age
-unfoldable pub hour_words : List (List ℕ) → Option ℕ
-hour_words [] = Some 0
-hour_words (word ∷ []) = None
-hour_words (word ∷ hour ∷ []) = if is_word word (codes "hour") then number_within 4294967295 hour else None
-hour_words (word ∷ hour ∷ next ∷ rest) = None
-
--- `add NAME TTL TYPE DATA`, with or without `hour H`
-unfoldable pub add_of : List (List ℕ) → Option AdminCmd
-add_of (name ∷ ttl ∷ rtype ∷ address ∷ rest) = do
-  hour ← if is_type_a rtype then hour_words rest else None
-  address_command name ttl address hour
-add_of words = None
-
--- `on` or `off`, behind `aging`
-unfoldable pub aging_of : List (List ℕ) → Option AdminCmd
-aging_of (word ∷ []) =
-    if is_word word (codes "on") then Some AgingOn else (if is_word word (codes "off") then Some AgingOff else None)
-aging_of words = None
-
--- the hours of an interval, at most 87,600
-unfoldable pub interval_of : List (List ℕ) → Option ℕ
-interval_of (hours ∷ []) = number_within 87600 hours
-interval_of words = None
-
-abbrev pub interval_named : List ℕ → ℕ → Option AdminCmd
-interval_named verb hours =
-    if is_word verb (codes "norefresh") then Some (NoRefresh hours)
-    else (if is_word verb (codes "refresh") then Some (Refresh hours) else None)
-
--- `norefresh H` or `refresh H`
-unfoldable pub interval_command : List ℕ → List (List ℕ) → Option AdminCmd
-interval_command verb words = do
-  hours ← interval_of words
-  interval_named verb hours
-
--- a command of administration
-unfoldable pub command_of : List (List ℕ) → Option AdminCmd
-command_of [] = None
-command_of (verb ∷ words) =
-    if is_word verb (codes "add") then add_of words
-    else (if is_word verb (codes "aging") then aging_of words else interval_command verb words)
-
 -- `admin R Z COMMAND`
 unfoldable pub admin_line : List (List ℕ) → Option ScriptLine
 admin_line (replica ∷ apex ∷ command) = do
@@ -121,7 +61,7 @@ admin_line words = None
 unfoldable pub ask_line : List (List ℕ) → Option ScriptLine
 ask_line (replica ∷ name ∷ qtype ∷ []) = do
   its_name ← name_word name
-  if is_type_a qtype then Some (lines.Ask replica its_name 1) else None
+  if is_type_a qtype then Some (lines.Ask replica its_name A) else None
 ask_line words = None
 
 -- `pull B A Z`

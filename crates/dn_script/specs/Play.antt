@@ -1,39 +1,47 @@
 -- What a script prints, and how it ends.
-use Rattle.std.specs.Prelude.{◌≡◌, ℕ, zero, suc, ◌+◌, Bool, not, if◌then◌else◌, nat_eq, List, [], ◌∷◌, ◌++◌, position, slice_get, Option, None, Some}
+pub mod Stepped
+pub mod Turns
+use Rattle.std.specs.Prelude.{◌≡◌, ℕ, zero, suc, ◌+◌, Bool, not, if◌then◌else◌, nat_eq, List, [], ◌∷◌, ◌++◌, position, Option, None, Some}
 use Rattle.std.specs.List.{list_any}
 use Rattle.std.specs.Io.KnownBytes.{Appends}
 use lib.Pointwise.{pointwise}
-use Rattle.dn_io.specs.Lines.{RawLine, is_overlong, lines_of, size_of, text_of}
-use Rattle.dn_io.specs.Outside.{AppendsFront}
 use Rattle.dn_io.specs.declared.status.Status.{Status}
 use Rattle.dn_io.specs.declared.status.Status.TheVariants.{Done, BadLine, Usage, ReadFault, WriteFault, OutOfMemory, TooLong, LinkFault}
-use Rattle.dn_script.specs.declared.event.Event.TheVariants as events
+use Rattle.dn_io.specs.Lines.{RawLine, is_overlong, lines_of, size_of, text_of}
+use Rattle.dn_io.specs.Moments.{first_moment}
+use Rattle.dn_io.specs.Options.{◌>>=◌}
+use Rattle.dn_io.specs.Outside.{AppendsFront}
+use Rattle.dn_name.specs.Name.{Labels}
+use Rattle.dn_zone.specs.declared.event.Event.TheVariants as events
+use Rattle.dn_world.specs.declared.event.WorldAnswer.{WorldAnswer}
+use Rattle.dn_world.specs.declared.event.WorldAnswer.TheVariants as world
+use Rattle.dn_world.specs.declared.event.WorldEvent.{WorldEvent}
+use Rattle.dn_world.specs.declared.event.WorldEvent.TheVariants.{Act, Create, Deliver, Join, Pull, Replica}
+use Rattle.dn_world.specs.declared.world.World.{World}
+use Rattle.dn_world.specs.Ask.{world_reply}
+use Rattle.dn_world.specs.World.{empty_world, wstep}
+use Rattle.dn_text.specs.Print.{as_line}
+use Rattle.dn_text.specs.Words.{words_of}
+use Rattle.dn_admin.specs.Answers.{answer_text}
 use Rattle.dn_script.specs.declared.line.ScriptLine.{ScriptLine}
 use Rattle.dn_script.specs.declared.line.ScriptLine.TheVariants as lines
 use Rattle.dn_script.specs.declared.script.Script.{Script}
-use Rattle.dn_script.specs.declared.world.World.{World}
-use Rattle.dn_script.specs.declared.world.WorldAnswer.{WorldAnswer}
-use Rattle.dn_script.specs.declared.world.WorldAnswer.TheVariants as world
-use Rattle.dn_script.specs.declared.world.WorldEvent.{WorldEvent}
-use Rattle.dn_script.specs.declared.world.WorldEvent.TheVariants.{Act, Create, Deliver, Join, Pull, Replica}
-use Rattle.dn_script.specs.Ask.{world_reply}
 use Rattle.dn_script.specs.Line.{line_of}
 use Rattle.dn_script.specs.Passes.{whole_pass}
-use Rattle.dn_script.specs.Print.{answer_text, as_line, packet_text}
+use Rattle.dn_script.specs.Print.{packet_text}
 use Rattle.dn_script.specs.PrintReply.{reply_text}
-use Rattle.dn_script.specs.Words.{◌>>=◌, does_nothing, words_of}
-use Rattle.dn_script.specs.World.{wstep}
+use Rattle.dn_script.specs.Words.{does_nothing}
 
 -- the script before its first line: no replica, and hour 1
 unfoldable pub opening : Script
-opening = record { names = []; world = record { replicas = []; zones = []; packets = [] }; moment = 36000000000 }
+opening = record { names = []; world = empty_world; moment = first_moment }
 
 abbrev pub is_named : List ℕ → List ℕ → Bool
 is_named name other = pointwise nat_eq name other
 
 -- the number of the replica of a name
-unfoldable pub number_of : Script → List ℕ → Option ℕ
-number_of script name = position (is_named name) script.names
+unfoldable pub replica_number : Script → List ℕ → Option ℕ
+replica_number script name = position (is_named name) script.names
 
 -- a line's output, where the line is valid, and the script behind it
 abbrev pub Step : Type 0
@@ -55,7 +63,7 @@ after_event script after = do
 unfoldable pub run_event : Script → WorldEvent → Step
 run_event script event = after_event script (wstep script.world event)
 
-unfoldable pub run_pass : Script → ℕ → List (List ℕ) → Step
+unfoldable pub run_pass : Script → ℕ → Labels → Step
 run_pass script at apex = after_event script (whole_pass script.world at apex script.moment)
 
 abbrev pub with_name : List ℕ → Script × List ℕ → Script × List ℕ
@@ -70,27 +78,27 @@ run_line script (lines.Replica name id host) = do
   after ← if is_new_name script name then run_event script (Replica id host) else None
   Some (with_name name after)
 run_line script (lines.Create replica apex mailbox) = do
-  at ← number_of script replica
+  at ← replica_number script replica
   run_event script (Create at apex mailbox script.moment)
 run_line script (lines.Join replica apex) = do
-  at ← number_of script replica
+  at ← replica_number script replica
   run_event script (Join at apex)
 run_line script (lines.Pull replica supplier apex) = do
-  by ← number_of script replica
-  of ← number_of script supplier
+  by ← replica_number script replica
+  of ← replica_number script supplier
   run_event script (Pull by of apex)
 run_line script (lines.Pass replica apex) = do
-  at ← number_of script replica
+  at ← replica_number script replica
   run_pass script at apex
 run_line script (lines.Deliver packet) = run_event script (Deliver packet)
 run_line script (lines.At moment) = Some (record script { moment = moment }, [])
 run_line script (lines.Admin replica apex cmd) = do
-  at ← number_of script replica
+  at ← replica_number script replica
   run_event script (Act at apex (events.Admin cmd script.moment))
 run_line script (lines.Ask replica name qtype) = do
-  at ← number_of script replica
-  its ← slice_get script.world.replicas at
-  Some (script, reply_text (world_reply script.world its.id name qtype))
+  at ← replica_number script replica
+  reply ← world_reply script.world at name qtype
+  Some (script, reply_text reply)
 
 -- The step of a script by the text of a line: none where the line isn't valid.
 unfoldable pub step_text : Script → List ℕ → Step
@@ -129,15 +137,15 @@ play_lines number before (line ∷ rest) script =
 unfoldable pub play : List ℕ → Played
 play bytes = play_lines 1 0 (lines_of bytes) opening
 
-abbrev pub behind : Script → Step → Script
-behind script None = script
-behind script (Some after) = after.0
+abbrev pub script_behind : Script → Step → Script
+script_behind script None = script
+script_behind script (Some after) = after.0
 
 -- The script behind so many of its lines. A line that isn't valid changes nothing.
 unfoldable pub script_after : ℕ → List RawLine → Script → Script
 script_after zero lines script = script
 script_after (suc count) [] script = script
-script_after (suc count) (line ∷ lines) script = script_after count lines (behind script (step_text script (text_of line)))
+script_after (suc count) (line ∷ lines) script = script_after count lines (script_behind script (step_text script (text_of line)))
 
 -- the world behind so many lines of a script
 abbrev pub world_after : ℕ → List ℕ → World

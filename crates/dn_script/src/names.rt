@@ -1,4 +1,4 @@
-ghost use Rattle.std.specs.Prelude.{◌≡◌, ◌++◌, ◌∷◌, [], position, false, OnOk, OnErr};
+ghost use Rattle.std.specs.Prelude.{◌≡◌, ◌++◌, ◌∷◌, [], position, false, OnOk};
 ghost use Rattle.std.specs.List.{list_any};
 ghost use Rattle.dn_script.specs.Play.{is_named};
 
@@ -7,7 +7,7 @@ use indexmap::IndexSet;
 use std::alloc::Global;
 use std::marker::Model;
 
-/// The names of a script's replicas, in the order in which they came.
+// The names of a script's replicas, in the order in which they came.
 #[derive(Drop)]
 pub struct Names {
     set: IndexSet<Vec<u8>>,
@@ -22,7 +22,7 @@ impl Model for Names {
 }
 
 impl Names {
-    /// No names.
+    // No names.
     pub fn new(alloc: Global) -> Names
         ensures { result ≡ [] }
     {
@@ -31,7 +31,7 @@ impl Names {
         }
     }
 
-    /// The number of a name, from 0.
+    // The number of a name, from 0.
     pub fn number_of(&self, name: &[u8]) -> Option<usize>
         ensures { result ≡ position (is_named name.now) self.now }
     {
@@ -44,10 +44,10 @@ impl Names {
         self.set.contains(name)
     }
 
-    /// Puts a name behind the others.
-    ///
-    /// # Errors
-    /// `OutOfMemory`.
+    // Puts a name behind the others.
+    //
+    // # Errors
+    // `OutOfMemory`.
     pub fn push(&mut self, name: List<u8>) -> Result<(), OutOfMemory>
         requires { list_any (is_named name) self.old ≡ false }
         ensures ok { OnOk result (self.new ≡ self.old ++ name ∷ []) }

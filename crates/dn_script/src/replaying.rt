@@ -1,15 +1,12 @@
-ghost use Rattle.std.specs.Prelude.{◌≡◌, ◌≢◌, ◌+◌, ◌<◌, ◌≤◌, ◌^◌, None, IfOk, IsErrOf};
+ghost use Rattle.std.specs.Prelude.{◌≡◌, ◌≢◌, ◌+◌, ◌≤◌, None, IfOk, IsErrOf};
 ghost use Rattle.dn_io.specs.Outside.{Rose, Told};
 ghost use Rattle.dn_script.specs.Play.{Ended, play};
-ghost use Rattle.dn_script.specs.Run.{Advanced, RunsText, Turns, last_status, play_ahead, status_of};
+ghost use Rattle.dn_script.specs.Play.Turns.{Advanced, RunsText, Turns, last_status, play_ahead, status_of};
 
 use crate::bad::Bad;
 use crate::script::Script;
-use dn_io::{Line, LineBuf, LineError, Moment, Sink, Source, Status, read_line, write_all};
+use dn_io::{Line, LineBuf, LineError, Sink, Source, Status, read_line, write_all};
 use std::alloc::Global;
-
-/// The moment before the first line that sets it: hour 1.
-const FIRST_MOMENT: u64 = 36_000_000_000;
 
 fn status_of(error: LineError) -> Status
     ensures { result ≡ status_of error }
@@ -21,7 +18,7 @@ fn status_of(error: LineError) -> Status
     }
 }
 
-/// Runs the text of a line, and writes what it prints.
+// Runs the text of a line, and writes what it prints.
 fn run_text<K: Sink>(
     alloc: Global,
     number: u64,
@@ -43,7 +40,7 @@ fn run_text<K: Sink>(
     }
 }
 
-/// Reads and runs the next line; `false` at the end of the input.
+// Reads and runs the next line; `false` at the end of the input.
 fn turn<S: Source, K: Sink>(
     alloc: Global,
     number: u64,
@@ -74,7 +71,7 @@ fn turn<S: Source, K: Sink>(
     }
 }
 
-/// Reads and runs each line up to the end of the input.
+// Reads and runs each line up to the end of the input.
 fn all_lines<S: Source, K: Sink>(
     alloc: Global,
     source: &mut S,
@@ -115,10 +112,7 @@ pub fn replay<S: Source, K: Sink>(alloc: Global, source: &mut S, sink: &mut K) -
     let Ok(mut lines) = LineBuf::new(alloc) else {
         return Status::OutOfMemory;
     };
-    let Some(moment) = Moment::of(FIRST_MOMENT) else {
-        unreachable!()
-    };
-    let mut script = Script::opening(alloc, moment);
+    let mut script = Script::opening(alloc);
     match all_lines(alloc, source, &mut lines, &mut script, sink) {
         Ok(()) => Status::Done,
         Err(status) => status,

@@ -1,23 +1,24 @@
 ghost use Rattle.std.specs.Prelude.{◌≡◌};
-ghost use Rattle.dn_script.specs.Play.{number_of, opening, output_of, run_event, run_line, step_text};
-ghost use Rattle.dn_script.specs.Stepped.{Steps};
-ghost use Rattle.dn_script.specs.Words.{Reads};
+ghost use Rattle.dn_script.specs.Play.{opening, output_of, replica_number, run_event, run_line, step_text};
+ghost use Rattle.dn_script.specs.Play.Stepped.{Gives, GivesOrRefuses, Steps};
 
 use crate::bad::Bad;
-use crate::event::{AdminCmd, Event};
 use crate::line::{ScriptLine, line_of};
 use crate::names::Names;
 use crate::passes::whole_pass;
-use crate::print::{answer_line, packet_line};
+use crate::print::packet_line;
 use crate::print_reply::reply_text;
-use crate::words::{does_nothing, words};
-use crate::world::{World, WorldAnswer, WorldEvent};
+use crate::words::does_nothing;
+use dn_admin::answer_line;
 use dn_io::{List, Moment};
 use dn_name::Name;
 use dn_stamp::ReplicaId;
+use dn_text::{TextError, words_of};
+use dn_world::{World, WorldAnswer, WorldEvent};
+use dn_zone::{AdminCmd, Event};
 use std::alloc::Global;
 
-/// A script so far: the names of its replicas in the order of their numbers, the world, and the moment.
+// A script so far: the names of its replicas in the order of their numbers, the world, and the moment.
 #[derive(Drop)]
 pub struct Script {
     pub names: Names,
@@ -25,10 +26,10 @@ pub struct Script {
     pub moment: Moment,
 }
 
-/// The line of output of an answer.
+// The line of output of an answer.
 #[tactic(auto, unfolding(crate::specs::Play::output_of))]
 fn output_of(alloc: Global, answer: WorldAnswer) -> Result<List<u8>, Bad>
-    ensures { Reads result (output_of answer) }
+    ensures { Gives result (output_of answer) }
 {
     match answer {
         WorldAnswer::Made => Ok(List::new(alloc)),
@@ -39,32 +40,30 @@ fn output_of(alloc: Global, answer: WorldAnswer) -> Result<List<u8>, Bad>
 }
 
 impl Script {
-    /// The script before its first line. The moment is hour 1 until a line sets it.
+    // The script before its first line: no replica, and the first moment until a line sets another.
     #[tactic(auto, unfolding(crate::specs::Play::opening))]
-    pub fn opening(alloc: Global, moment: Moment) -> Script
-        requires { moment ≡ 36000000000 }
+    pub fn opening(alloc: Global) -> Script
         ensures { result ≡ opening }
     {
         Script {
             names: Names::new(alloc),
-            world: World {
-                replicas: List::new(alloc),
-                zones: List::new(alloc),
-                packets: List::new(alloc),
-            },
-            moment,
+            world: World::new(alloc),
+            moment: Moment::first(),
         }
     }
 
-    /// The number of the replica of a name.
-    #[tactic(auto, unfolding(crate::specs::Play::number_of))]
-    fn number_of(&self, name: &[u8]) -> Option<usize>
-        ensures { result ≡ number_of self.now name.now }
+    // The number of the replica of a name. A line with a name that no replica has isn't valid.
+    #[tactic(auto, unfolding(crate::specs::Play::replica_number))]
+    fn replica_number(&self, name: &[u8]) -> Result<usize, Bad>
+        ensures { GivesOrRefuses result (replica_number self.now name.now) }
     {
-        self.names.number_of(name)
+        match self.names.number_of(name) {
+            Some(number) => Ok(number),
+            None => Err(Bad::Line),
+        }
     }
 
-    /// One event of the world, with its line of output.
+    // One event of the world, with its line of output.
     #[tactic(auto, unfolding(crate::specs::Play::run_event))]
     fn run_event(&mut self, alloc: Global, event: &WorldEvent) -> Result<List<u8>, Bad>
         ensures step { Steps result self.new (run_event self.old event.now) }
@@ -74,6 +73,7 @@ impl Script {
         output_of(alloc, answer)
     }
 
+    // `replica R ID HOST`
     #[tactic(auto, unfolding(crate::specs::Play::run_line))]
     fn replica(
         &mut self,
@@ -92,6 +92,7 @@ impl Script {
         Ok(output)
     }
 
+    // `zone create R Z MAILBOX`
     #[tactic(auto, unfolding(crate::specs::Play::run_line))]
     fn create(
         &mut self,
@@ -102,9 +103,7 @@ impl Script {
     ) -> Result<List<u8>, Bad>
         ensures { Steps result self.new (run_line self.old (ScriptLine.Create replica.now apex mailbox)) }
     {
-        let Some(at) = self.number_of(replica) else {
-            return Err(Bad::Line);
-        };
+        let at = self.replica_number(replica)?;
         let event = WorldEvent::Create {
             at,
             apex,
@@ -114,16 +113,16 @@ impl Script {
         self.run_event(alloc, &event)
     }
 
+    // `zone join R Z`
     #[tactic(auto, unfolding(crate::specs::Play::run_line))]
     fn join(&mut self, alloc: Global, replica: &[u8], apex: Name) -> Result<List<u8>, Bad>
         ensures { Steps result self.new (run_line self.old (ScriptLine.Join replica.now apex)) }
     {
-        let Some(at) = self.number_of(replica) else {
-            return Err(Bad::Line);
-        };
+        let at = self.replica_number(replica)?;
         self.run_event(alloc, &WorldEvent::Join { at, apex })
     }
 
+    // `pull R S Z`
     #[tactic(auto, unfolding(crate::specs::Play::run_line))]
     fn pull(
         &mut self,
@@ -134,27 +133,22 @@ impl Script {
     ) -> Result<List<u8>, Bad>
         ensures { Steps result self.new (run_line self.old (ScriptLine.Pull replica.now supplier.now apex)) }
     {
-        let Some(by) = self.number_of(replica) else {
-            return Err(Bad::Line);
-        };
-        let Some(of) = self.number_of(supplier) else {
-            return Err(Bad::Line);
-        };
+        let by = self.replica_number(replica)?;
+        let of = self.replica_number(supplier)?;
         self.run_event(alloc, &WorldEvent::Pull { by, of, apex })
     }
 
-    /// A whole pass over a zone.
+    // A whole pass over a zone.
     #[tactic(auto, unfolding(crate::specs::Play::run_line, crate::specs::Play::run_pass))]
     fn pass(&mut self, alloc: Global, replica: &[u8], apex: &Name) -> Result<List<u8>, Bad>
         ensures { Steps result self.new (run_line self.old (ScriptLine.Pass replica.now apex.now)) }
     {
-        let Some(at) = self.number_of(replica) else {
-            return Err(Bad::Line);
-        };
+        let at = self.replica_number(replica)?;
         let answer = whole_pass(alloc, &mut self.world, at, apex, self.moment)?;
         output_of(alloc, answer)
     }
 
+    // `admin R Z COMMAND`
     #[tactic(auto, unfolding(crate::specs::Play::run_line))]
     fn admin(
         &mut self,
@@ -165,9 +159,7 @@ impl Script {
     ) -> Result<List<u8>, Bad>
         ensures { Steps result self.new (run_line self.old (ScriptLine.Admin replica.now apex cmd)) }
     {
-        let Some(at) = self.number_of(replica) else {
-            return Err(Bad::Line);
-        };
+        let at = self.replica_number(replica)?;
         let event = WorldEvent::Act {
             at,
             apex,
@@ -179,22 +171,19 @@ impl Script {
         self.run_event(alloc, &event)
     }
 
-    /// What a replica replies to a question.
+    // What a replica replies to a question.
     #[tactic(auto, unfolding(crate::specs::Play::run_line))]
     fn ask(&self, alloc: Global, replica: &[u8], name: &Name, qtype: u16) -> Result<List<u8>, Bad>
         ensures { Steps result self.now (run_line self.now (ScriptLine.Ask replica.now name.now qtype)) }
     {
-        let Some(at) = self.number_of(replica) else {
-            return Err(Bad::Line);
-        };
-        let Some(asked) = self.world.replicas.get(at) else {
-            return Err(Bad::Line);
-        };
-        let reply = self.world.reply(alloc, asked.id, name, qtype)?;
-        Ok(reply_text(alloc, &reply)?)
+        let at = self.replica_number(replica)?;
+        match self.world.reply(alloc, at, name, qtype)? {
+            Some(reply) => Ok(reply_text(alloc, &reply)?),
+            None => Err(Bad::Line),
+        }
     }
 
-    /// Runs a line, and answers what it prints.
+    // Runs a line, and answers what it prints.
     #[tactic(auto, unfolding(crate::specs::Play::run_line))]
     fn run_line(&mut self, alloc: Global, line: ScriptLine) -> Result<List<u8>, Bad>
         ensures { Steps result self.new (run_line self.old line) }
@@ -231,19 +220,24 @@ impl Script {
         }
     }
 
-    /// Runs a line by its text, and answers what it prints.
-    ///
-    /// # Errors
-    /// `Line` exactly where the line isn't valid, `Memory` where memory wasn't to be had.
+    // Runs a line by its text, and answers what it prints.
+    //
+    // # Errors
+    // `Line` exactly where the line isn't valid, `Memory` where memory wasn't to be had.
     #[tactic(auto, unfolding(crate::specs::Play::step_text))]
     pub fn step(&mut self, alloc: Global, text: &[u8]) -> Result<List<u8>, Bad>
         ensures { Steps result self.new (step_text self.old text.now) }
     {
-        let words = words(alloc, text)?;
+        let Ok(words) = words_of(alloc, text) else {
+            return Err(Bad::Memory);
+        };
         if does_nothing(text, &words) {
             return Ok(List::new(alloc));
         }
-        let line = line_of(alloc, &words)?;
-        self.run_line(alloc, line)
+        match line_of(alloc, &words) {
+            Ok(line) => self.run_line(alloc, line),
+            Err(TextError::BadText) => Err(Bad::Line),
+            Err(TextError::OutOfMemory) => Err(Bad::Memory),
+        }
     }
 }

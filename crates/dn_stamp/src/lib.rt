@@ -6,6 +6,3 @@ mod stamp;
 
 pub use join::{Join, Stamped};
 pub use stamp::{ReplicaId, Stamp};
-
-#[cfg(test)]
-mod tests;

@@ -1,7 +1,7 @@
 ghost use Rattle.std.specs.Prelude.{◌≡◌};
-ghost use Rattle.dn_stamp.specs.Stamp.{first_stamp, next_stamp};
+ghost use Rattle.dn_stamp.specs.Stamp.{first_stamp, is_last, is_newer, next_stamp};
 
-/// The greatest version of a stamp.
+// The greatest version of a stamp.
 const LAST_VERSION: u32 = 4_294_967_294;
 
 /// The identity of a replica.
@@ -30,18 +30,32 @@ impl Stamp {
         }
     }
 
-    /// The stamp of the next write of a unit; none exactly behind the last version.
+    /// Whether it is greater than another.
+    pub fn is_newer(&self, other: &Stamp) -> bool
+        ensures { result ≡ is_newer self.now other.now }
+    {
+        self.cmp(other).is_gt()
+    }
+
+    /// Whether no stamp comes behind it: it is at the last version, 4,294,967,294.
+    pub fn is_last(&self) -> bool
+        ensures { result ≡ is_last self.now }
+    {
+        self.version >= LAST_VERSION
+    }
+
+    /// The stamp of the next write of a unit; none exactly at the last version.
     pub fn next(&self, id: ReplicaId, seconds: u64) -> Option<Stamp>
         ensures { result ≡ next_stamp self.now id seconds }
     {
-        if self.version < LAST_VERSION {
+        if self.is_last() {
+            None
+        } else {
             Some(Stamp {
                 version: self.version + 1,
                 seconds,
                 id,
             })
-        } else {
-            None
         }
     }
 }

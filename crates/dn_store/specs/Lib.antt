@@ -1,5 +1,5 @@
 pub mod Capitals
+pub mod Contents
 pub mod Places
-pub mod Record
 pub mod Table
 pub mod Value

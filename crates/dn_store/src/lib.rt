@@ -2,18 +2,14 @@
 #![tactic(auto)]
 
 mod changes;
+mod contents;
 mod order;
-mod record;
 mod rows;
 mod table;
 mod unit;
 mod value;
 
-pub use record::Record;
-pub use rows::compare_rows;
+pub use contents::{properties_of, props_number, rows_at, rows_in};
 pub use table::{ChangeRun, Table};
 pub use unit::{Unit, UnitKey, UnitValue, Write};
 pub use value::{fits, unit_ok, value_len};
-
-#[cfg(test)]
-mod tests;

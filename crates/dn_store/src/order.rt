@@ -1,9 +1,9 @@
 ghost use Rattle.std.specs.Prelude.{◌+◌, ◌^◌, IfOk, ◌≡◌, ◌<◌, ◌≤◌, false, length, slice_index_or, position, option_copied, OnOk};
 ghost use Rattle.std.specs.Ordering.{is_eq, is_le};
 ghost use Rattle.dn_store.specs.Places.{place_among};
-ghost use Rattle.dn_store.specs.declared.unit.Unit as one;
 ghost use Rattle.dn_store.specs.Value.{key_order};
-ghost use Rattle.dn_store.specs.Table.{is_above, numbered, placed, taken, unit_above, unit_at};
+ghost use Rattle.dn_store.specs.Table.{numbered, placed, taken, unit_above, unit_at};
+ghost use Rattle.dn_store.specs.declared.unit.Unit as one;
 
 use crate::{Unit, UnitKey, Write};
 use dn_io::{Duplicate, OutOfMemory};

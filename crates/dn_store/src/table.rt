@@ -1,9 +1,8 @@
-ghost use Rattle.std.specs.Prelude.{◌≡◌, ◌≤◌, ◌+◌, ◌^◌, ℕ, [], true, false, length, map, option_copied, IfOk, IsSomeAnd, IsTrue};
+ghost use Rattle.std.specs.Prelude.{◌≡◌, ◌≤◌, ◌+◌, ℕ, [], length, map, nat_lt, option_copied, IfOk, IsTrue};
 ghost use Rattle.std.specs.List.{AllByRecursion};
-ghost use Rattle.std.specs.Ordering.{is_gt};
-ghost use Rattle.dn_store.specs.Table.{AreWritten, IsLeastAbove, IsNotWritten, IsTable, KeysDiffer, run_after, taken, unit_above, unit_at, write_of};
+ghost use Rattle.dn_store.specs.Table.{AreWritten, IsLeastAbove, IsNotWritten, IsTable, KeysDiffer, change_limit, run_after, taken, unit_above, unit_at, write_of};
 ghost use Rattle.dn_store.specs.declared.unit.UnitKey.{UnitKey};
-ghost use Rattle.dn_store.specs.Value.{fits, key_order};
+ghost use Rattle.dn_store.specs.Value.{fits};
 
 use crate::changes::{front_of, last_of, newer_units};
 use crate::order::{find_above, find_key, take_writes};
@@ -11,6 +10,9 @@ use crate::{Unit, UnitKey, Write};
 use dn_io::{Duplicate, List, OutOfMemory};
 use std::alloc::Global;
 use std::marker::Model;
+
+// The most changes that a table takes.
+const MAX_CHANGES: u64 = 1 << 63;
 
 /// The units of a zone on one replica, as contracts see it the list of its units in the order of their keys, and its
 /// change count: the number of writes that the zone took on this replica.
@@ -61,6 +63,22 @@ impl Table {
         self.top
     }
 
+    /// What a table is, at hand for a proof that needs it: keys in order, different numbers up to the change count, values
+    /// that fit, at most 2^63 changes. Nothing runs.
+    pub fn facts(&self)
+        ensures { IsTable self.now.0 self.now.1 }
+    {
+        let _ = &self.top;
+    }
+
+    /// Whether so many writes more would pass the most changes that a table takes, 2^63.
+    pub fn is_full_for(&self, writes: usize) -> bool
+        ensures { result ≡ nat_lt change_limit (self.now.1 + writes) }
+    {
+        let count = writes as u64;
+        count > MAX_CHANGES || self.top > MAX_CHANGES - count
+    }
+
     /// How many units there are.
     pub fn count(&self) -> usize
         ensures { result ≡ length self.now.0 }
@@ -89,11 +107,11 @@ impl Table {
     ///
     /// # Errors
     /// `OutOfMemory`.
-    #[tactic(auto, using(crate::proofs::Tables::table_taken))]
+    #[tactic(auto, using(crate::proofs::TableLemmas::table_taken))]
     pub fn put(&self, batch: &List<Write>) -> Result<Table, OutOfMemory>
         requires keys { KeysDiffer batch.now }
         requires values { AllByRecursion (λ write. IsTrue (fits write.value)) batch.now }
-        requires count { self.now.1 + length batch.now ≤ 2 ^ 63 }
+        requires count { self.now.1 + length batch.now ≤ change_limit }
         ensures after { IfOk result (λ table. table ≡ (taken self.now.0 self.now.1 batch.now, self.now.1 + length batch.now)) }
         // So each write is found under its key, and under any other key the unit from before.
         ensures written { IfOk result (λ table. AreWritten batch.now table.0) }

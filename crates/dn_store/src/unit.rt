@@ -1,7 +1,7 @@
-use crate::Record;
 use dn_io::{Duplicate, List, OutOfMemory};
 use dn_name::Name;
 use dn_property::Property;
+use dn_rdata::Record;
 use dn_stamp::Stamp;
 use std::alloc::Global;
 

@@ -2,7 +2,10 @@
 use Rattle.std.specs.Prelude.{ℕ, nat_eq, if◌then◌else◌, List, [], ◌∷◌, codes, Option, None, Some}
 use Rattle.std.specs.List.{slice_split}
 use Rattle.dn_io.specs.declared.outside.Addr.{Addr}
-use Rattle.dn_script.specs.Words.{◌>>=◌, address_of, is_word, number_within}
+use Rattle.dn_io.specs.Options.{◌>>=◌}
+use Rattle.dn_text.specs.Addresses.{address_of}
+use Rattle.dn_text.specs.Words.{is_word}
+use Rattle.dn_text.specs.Numbers.{number_within}
 use Rattle.dnsdir.specs.declared.command.Command.{Command}
 use Rattle.dnsdir.specs.declared.command.Command.TheVariants.{Show, Pack, Replay, Generate, Serve, Usage}
 

@@ -1,7 +1,6 @@
-ghost use Rattle.std.specs.Prelude.{◌≡◌, ◌≢◌, ◌↔◌, ◌≤◌, ℕ, List, false, map};
+ghost use Rattle.std.specs.Prelude.{◌≡◌, ◌≢◌, ◌↔◌, ℕ, List, false, map};
 ghost use Rattle.dn_io.specs.Outside.{Rose, Told};
-ghost use Rattle.dn_script.specs.Aging.{AgesRightly};
-ghost use Rattle.dn_script.specs.Alike.{AnswersAlike};
+ghost use Rattle.dn_world.specs.Laws.{AgesRightly, AnswersAlike};
 ghost use Rattle.dn_script.specs.Play.{world_after};
 ghost use Rattle.dnsdir.specs.Batch.{EndedAs, IsDoneOrWant, IsValid, is_batch};
 ghost use Rattle.dnsdir.specs.Command.{command_in};

@@ -66,29 +66,23 @@ fn print_text(rt: &impl Print, text: &str) -> Status {
     }
 }
 
-// Replays over the standard streams.
-fn run_batch(rt: &(impl Input + Print), alloc: Global, words: &[&str]) -> Status {
-    let mut source = StdSource::of(rt.reader());
-    let mut sink = StdSink::of(io::writer(rt));
-    batch(alloc, words, &mut source, &mut sink)
-}
-
-fn run(rt: &(impl Input + Print), alloc: Global, words: &[&str]) -> Status {
-    match words {
-        [word] if *word == "--help" => print_text(rt, HELP),
-        [word] if *word == "--version" => print_text(rt, VERSION),
-        _ => run_batch(rt, alloc, words),
-    }
-}
-
-fn run_words(rt: &(impl Input + Print), alloc: Global, words: &[String]) -> Status {
+// Does what the words ask for: help and version by itself, all else over the standard streams.
+fn run(rt: &(impl Input + Print), alloc: Global, words: &[String]) -> Status {
     let mut texts = Vec::new(alloc);
     for word in words {
         if texts.push(word.as_str()).is_err() {
             return Status::OutOfMemory;
         }
     }
-    run(rt, alloc, &texts)
+    match texts.as_slice() {
+        [word] if *word == "--help" => print_text(rt, HELP),
+        [word] if *word == "--version" => print_text(rt, VERSION),
+        words => {
+            let mut source = StdSource::of(rt.reader());
+            let mut sink = StdSink::of(io::writer(rt));
+            batch(alloc, words, &mut source, &mut sink)
+        }
+    }
 }
 
 // Says on standard error what the status alone doesn't. Where that fails, the status still tells.
@@ -102,7 +96,7 @@ fn explain(rt: &impl Eprint, status: &Status) {
 
 fn main(rt: HostRuntime) -> ExitCode {
     let status = match words_of(&rt) {
-        Ok(words) => run_words(&rt, rt.alloc(), &words),
+        Ok(words) => run(&rt, rt.alloc(), &words),
         Err(error) => status_of(error),
     };
     explain(&rt, &status);

@@ -1,6 +1,6 @@
 use Rattle.std.proofs.Common.{◌≡◌, ◌∙◌, sym, take, arith}
 use Rattle.dn_io.specs.Lines.{without_return}
-use Rattle.dn_io.proofs.Splits.{too_long-feed, takes-feed}
+use Rattle.dn_io.proofs.LineEndLemmas.{too_long-feed, takes-feed}
 use Rattle.dn_io.proofs.line.cut_line.Goals as goal
 
 pub returns-then-is_overlong-clause-cuts : goal.returns-then-is_overlong-clause-cuts

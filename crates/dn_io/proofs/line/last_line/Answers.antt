@@ -1,5 +1,5 @@
 use Rattle.std.proofs.Common.{◌+◌, ◌<◌, ◌∙◌, length, rules}
-use Rattle.dn_io.proofs.Splits.{takes-last}
+use Rattle.dn_io.proofs.LineEndLemmas.{takes-last}
 use Rattle.dn_io.proofs.line.last_line.Goals as goal
 
 pub returns-clause-ends : goal.returns-clause-ends

@@ -1,5 +1,5 @@
 use Rattle.std.proofs.lemmas.Result.{err_from_is_err_and}
-use Rattle.dn_io.proofs.Steps.{held_at, reads-error}
+use Rattle.dn_io.proofs.LineReaderLemmas.{held_at, reads-error}
 use Rattle.dn_io.proofs.line.next_line.Goals as goal
 
 pub returns-in_err-text-clause-line : goal.returns-in_err-text-clause-line

@@ -1,5 +1,5 @@
 use Rattle.std.proofs.Common.{◌-◌, length, sym, ◌∙◌, arith}
-use Rattle.dn_io.proofs.Splits.{without-return, without-other}
+use Rattle.dn_io.proofs.LineEndLemmas.{without-return, without-other}
 use Rattle.dn_io.proofs.line.strip_return.Goals as goal
 
 pub returns-then-last-eq13 : goal.returns-then-last-eq13

@@ -1,6 +1,6 @@
 use Rattle.std.proofs.Common.{◌≡◌, ◌<◌, true, length, rules}
 use Rattle.dn_io.specs.Reading.{FeedFree, overlong}
-use Rattle.dn_io.proofs.Splits.{too_long-open}
+use Rattle.dn_io.proofs.LineEndLemmas.{too_long-open}
 use Rattle.dn_io.proofs.line.take_line.Goals as goal
 
 pub returns-in-None-clause-takes : goal.returns-in-None-clause-takes

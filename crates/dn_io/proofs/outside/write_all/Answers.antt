@@ -1,5 +1,5 @@
 use Rattle.std.proofs.Common.{arith}
-use Rattle.dn_io.proofs.Pieces.{appended-more}
+use Rattle.dn_io.proofs.PieceLemmas.{appended-more}
 use Rattle.dn_io.proofs.outside.write_all.Goals as goal
 
 pub loop-rest-preserved : goal.loop-rest-preserved

@@ -1,7 +1,7 @@
 use Rattle.std.proofs.Common.{◌∙◌, ap, Ordering}
 use Rattle.std.specs.Ordering.{ordering_then}
 use Rattle.dn_name.specs.Walk.{order_of}
-use Rattle.dn_name.proofs.Ordered.{compare_step}
+use Rattle.dn_name.proofs.OrderLemmas.{compare_step}
 use Rattle.dn_name.proofs.order.+compare_labels.Goals as goal
 
 pub returns-in-Some-Some : goal.returns-in-Some-Some

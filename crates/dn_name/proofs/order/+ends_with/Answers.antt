@@ -1,4 +1,4 @@
-use Rattle.dn_name.proofs.Ordered.{ends_found, ends_step}
+use Rattle.dn_name.proofs.OrderLemmas.{ends_found, ends_step}
 use Rattle.dn_name.proofs.order.+ends_with.Goals as goal
 
 pub returns-then-eq : goal.returns-then-eq

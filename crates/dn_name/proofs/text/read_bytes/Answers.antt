@@ -1,6 +1,6 @@
 use Rattle.std.proofs.Common.{arith}
 use Rattle.std.proofs.Math.ListN.{length-set}
-use Rattle.dn_name.proofs.Steps.{part_more, part_full}
+use Rattle.dn_name.proofs.LabelTurnLemmas.{part_more, part_full}
 use Rattle.dn_name.proofs.text.read_bytes.Goals as goal
 
 pub returns-then-label-eq63-clause-part : goal.returns-then-label-eq63-clause-part

@@ -1,5 +1,5 @@
 use Rattle.std.proofs.Common.{take, arith}
-use Rattle.dn_name.proofs.Steps.{read_end, read_dot, unread_room, hopeless_rest}
+use Rattle.dn_name.proofs.LabelTurnLemmas.{read_end, read_dot, unread_room, hopeless_rest}
 use Rattle.dn_name.proofs.text.read_label.Goals as goal
 use Rattle.dn_name.proofs.text.read_label.Goals.{else-end-eq46-via-then-end-eq46+else-label-gt0-2, else-end-eq46-via-else-end-eq46}
 

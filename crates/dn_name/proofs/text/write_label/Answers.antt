@@ -1,5 +1,5 @@
 use Rattle.std.proofs.Common.{arith, get_or}
-use Rattle.dn_name.proofs.Writing.{byte_text_most, label_more}
+use Rattle.dn_name.proofs.TextWritingLemmas.{byte_text_most, label_more}
 use Rattle.dn_name.proofs.text.write_label.Goals as goal
 
 pub loop-byte-preserved : goal.loop-byte-preserved

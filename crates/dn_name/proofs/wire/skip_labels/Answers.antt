@@ -1,6 +1,6 @@
 use Rattle.std.proofs.Common.{◌∙◌, ◌+◌, ap, arith, drop}
 use Rattle.dn_name.specs.Name.{wire_of}
-use Rattle.dn_name.proofs.Walk.{all-drop, ended, one_more}
+use Rattle.dn_name.proofs.LabelWalkLemmas.{all-drop, ended, one_more}
 use Rattle.dn_name.proofs.wire.skip_labels.Goals as goal
 
 pub returns-in_default : goal.returns-in_default

@@ -1,6 +1,6 @@
 use Rattle.std.proofs.Common.{◌∙◌, sym, ap}
 use Rattle.dn_script.specs.Passes.{steps_from, steps_to_end}
-use Rattle.dn_script.proofs.Steps.{ends, goes_on, last}
+use Rattle.dn_script.proofs.StepLemmas.{ends, goes_on, last}
 use Rattle.dn_script.proofs.passes.steps_to_end.Goals as goal
 
 pub returns-then-not-is_moved : goal.returns-then-not-is_moved

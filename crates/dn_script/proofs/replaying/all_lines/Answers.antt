@@ -1,6 +1,6 @@
 use Rattle.dn_io.specs.declared.status.Status.TheVariants.{Done}
-use Rattle.dn_script.specs.Run.{play_ahead}
-use Rattle.dn_script.proofs.Runs.{turns_end}
+use Rattle.dn_script.specs.Play.Turns.{play_ahead}
+use Rattle.dn_script.proofs.TurnLemmas.{turns_end}
 use Rattle.dn_script.proofs.replaying.all_lines.Goals as goal
 
 pub returns-clause-transcript : goal.returns-clause-transcript

@@ -1,6 +1,6 @@
 use Rattle.std.proofs.Common.{◌≡◌, ◌+◌, ◌-◌, ◌^◌, ◌≤◌, None}
 use Rattle.dn_io.specs.Outside.{Told}
-use Rattle.dn_script.specs.Run.{GoesOn, play_ahead}
+use Rattle.dn_script.specs.Play.Turns.{GoesOn, play_ahead}
 use Rattle.dn_script.proofs.replaying.all_lines.Given as goal
 
 abbrev pub invariant-loop-number : goal.invariant-loop-number

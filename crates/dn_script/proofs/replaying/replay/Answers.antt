@@ -1,5 +1,5 @@
 use Rattle.dn_io.specs.declared.status.Status.TheVariants.{Done}
-use Rattle.dn_script.proofs.Runs.{replay_ended}
+use Rattle.dn_script.proofs.TurnLemmas.{replay_ended}
 use Rattle.dn_script.proofs.replaying.replay.Goals as goal
 
 pub returns-in-Ok-all_lines-clause-transcript : goal.returns-in-Ok-all_lines-clause-transcript

@@ -1,7 +1,7 @@
 use Rattle.std.proofs.Common.{◌+◌}
 use Rattle.std.proofs.lemmas.Result.{err_from_is_err_and}
-use Rattle.dn_script.specs.Run.{play_ahead}
-use Rattle.dn_script.proofs.Runs.{turn_done, turn_ends, turn_fails, turn_stops}
+use Rattle.dn_script.specs.Play.Turns.{play_ahead}
+use Rattle.dn_script.proofs.TurnLemmas.{turn_done, turn_ends, turn_fails, turn_stops}
 use Rattle.dn_script.proofs.replaying.turn.Goals as goal
 
 pub returns-in_err-run_text-in-Ok-Text-clause-turns : goal.returns-in_err-run_text-in-Ok-Text-clause-turns

@@ -1,10 +1,11 @@
 use Rattle.std.proofs.Common.{arith, nat_lt}
-use Rattle.dn_store.proofs.Numbers.{inserted_at, place-le-len}
+use Rattle.dn_store.proofs.ByNumberLemmas.{inserted_at}
+use Rattle.dn_store.proofs.ListLemmas.{place-le}
 use Rattle.dn_store.proofs.changes.insert_by_number.Goals as goal
 
 pub insert-requires : goal.insert-requires
 insert-requires c =
-    omega (arith, place-le-len (λ other. nat_lt c.args.unit.now.usn other.now.usn) c.as_slice.result.now, c.as_slice.ensures.len, c.place_by_number-at.ensures)
+    omega (arith, place-le (λ other. nat_lt c.args.unit.now.usn other.now.usn) c.as_slice.result.now, c.as_slice.ensures.len, c.place_by_number-at.ensures)
 
 pub returns : goal.returns
 returns c =

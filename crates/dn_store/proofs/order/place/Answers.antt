@@ -1,9 +1,12 @@
 use Rattle.std.proofs.Common.{true, false, sym, ◌∙◌, arith}
-use Rattle.dn_store.proofs.Places.{place-le, placed_by}
+use Rattle.std.specs.Ordering.{is_le}
+use Rattle.dn_store.specs.Value.{key_order}
+use Rattle.dn_store.proofs.ListLemmas.{place-le}
+use Rattle.dn_store.proofs.PlaceLemmas.{placed_by}
 use Rattle.dn_store.proofs.order.place.Goals as goal
 
 pub insert-requires : goal.insert-requires
-insert-requires c = omega (arith, place-le c.args.unit.key c.as_slice.result.now, c.as_slice.ensures.len, c.place_of-at.ensures)
+insert-requires c = omega (arith, place-le (λ other. is_le (key_order c.args.unit.key other.key)) c.as_slice.result.now, c.as_slice.ensures.len, c.place_of-at.ensures)
 
 pub returns-then-has_key_at : goal.returns-then-has_key_at
 returns-then-has_key_at c =

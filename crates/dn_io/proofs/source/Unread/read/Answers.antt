@@ -1,4 +1,4 @@
-use Rattle.dn_io.proofs.Pieces.{unread_moves}
+use Rattle.dn_io.proofs.PieceLemmas.{unread_moves}
 use Rattle.dn_io.proofs.source.Unread.read.Goals as goal
 
 pub returns-clause-bytes : goal.returns-clause-bytes

@@ -1,8 +1,8 @@
 use Rattle.std.proofs.Common.{◌≡◌, ◌∙◌, ◌-◌, ap, ap₂, arith, length, min, drop, nat_cmp}
 use Rattle.std.specs.Ordering.{ordering_then}
 use Rattle.dn_name.specs.Walk.{order_of}
-use Rattle.dn_name.proofs.Ordered.{as_many, order_counted}
-use Rattle.dn_name.proofs.Walk.{all-drop}
+use Rattle.dn_name.proofs.LabelWalkLemmas.{all-drop}
+use Rattle.dn_name.proofs.OrderLemmas.{as_many, order_counted}
 use Rattle.dn_name.proofs.name.Name.compare.Goals as goal
 
 pub returns : goal.returns

@@ -2,8 +2,8 @@ use Rattle.std.proofs.Common.{◌≡◌, ◌+◌, ◌≤◌, false, length, take
 use Rattle.std.proofs.lemmas.Bool.Decides.{nat_tests}
 use lib.Pointwise.{pointwise}
 use Rattle.dn_name.specs.Name.{wire_len}
-use Rattle.dn_name.proofs.Reading.{begins, wire_len_least}
-use Rattle.dn_name.proofs.Steps.{pushes, ends_named, ends_unnamed}
+use Rattle.dn_name.proofs.LabelTurnLemmas.{pushes, ends_named, ends_unnamed}
+use Rattle.dn_name.proofs.TextReadingLemmas.{begins, wire_len_least}
 use Rattle.dn_name.proofs.name.Name.from_text.Goals as goal
 
 pub loop-text-init : goal.loop-text-init

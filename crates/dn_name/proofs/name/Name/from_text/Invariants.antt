@@ -1,6 +1,6 @@
 use Rattle.std.proofs.Common.{◌≡◌, ◌≤◌, [], length}
-use Rattle.dn_name.specs.Text.{name_of_text}
 use Rattle.dn_name.specs.Reading.{completed}
+use Rattle.dn_name.specs.Text.{name_of_text}
 use Rattle.dn_name.proofs.name.Name.from_text.Given as goal
 
 abbrev pub invariant-loop-text : goal.invariant-loop-text

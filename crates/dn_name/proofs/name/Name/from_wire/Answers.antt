@@ -1,7 +1,7 @@
 use Rattle.std.proofs.Common.{sym, ◌∙◌, arith, length, length-take-le, []}
 use Rattle.dn_name.specs.Wire.{labels_in}
-use Rattle.dn_name.proofs.Labels.{made, named, opened}
-use Rattle.dn_name.proofs.Walk.{length-whole, length-root, over_root}
+use Rattle.dn_name.proofs.LabelWalkLemmas.{length-whole, length-root, over_root}
+use Rattle.dn_name.proofs.WireNameLemmas.{made, named, opened}
 use Rattle.dn_name.proofs.name.Name.from_wire.Goals as goal
 
 pub slice_bounds-wire-end : goal.slice_bounds-wire-end

@@ -1,6 +1,6 @@
 use Rattle.std.proofs.Common.{◌∙◌, sym, ap₂}
 use Rattle.dn_name.specs.Walk.{ends_in}
-use Rattle.dn_name.proofs.Ordered.{under_lowered, under_means}
+use Rattle.dn_name.proofs.OrderLemmas.{under_lowered, under_means}
 use Rattle.dn_name.proofs.name.Name.is_under.Goals as goal
 
 pub returns-clause-test : goal.returns-clause-test

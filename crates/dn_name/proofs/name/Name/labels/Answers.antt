@@ -1,6 +1,6 @@
 use Rattle.std.proofs.Common.{arith, ◌+◌}
-use Rattle.dn_name.proofs.Labels.{two_a_label}
-use Rattle.dn_name.proofs.Walk.{all-drop, one_more, all_counted}
+use Rattle.dn_name.proofs.LabelWalkLemmas.{all-drop, one_more, all_counted}
+use Rattle.dn_name.proofs.WireNameLemmas.{two_a_label}
 use Rattle.dn_name.proofs.name.Name.labels.Goals as goal
 
 pub overflow_add-count : goal.overflow_add-count

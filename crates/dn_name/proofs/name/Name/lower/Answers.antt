@@ -1,7 +1,7 @@
 use Rattle.std.proofs.Common.{◌∙◌, sym}
 use Rattle.dn_name.specs.Name.{lowered}
-use Rattle.dn_name.proofs.Labels.{made, named, opened}
-use Rattle.dn_name.proofs.Lowered.{name-lowered, padded-lowered, wire_len-lowered}
+use Rattle.dn_name.proofs.LowerCaseLemmas.{name-lowered, padded-lowered, wire_len-lowered}
+use Rattle.dn_name.proofs.WireNameLemmas.{made, named, opened}
 use Rattle.dn_name.proofs.name.Name.lower.Goals as goal
 
 pub invariant_of-result : goal.invariant_of-result

@@ -1,5 +1,5 @@
 use Rattle.std.proofs.Common.{sym, ◌∙◌, ap, Some}
-use Rattle.dn_name.proofs.Walk.{behind, whole, read_again}
+use Rattle.dn_name.proofs.LabelWalkLemmas.{behind, whole, read_again}
 use Rattle.dn_name.proofs.name.Name.parent.Goals as goal
 
 pub from_wire-requires : goal.from_wire-requires

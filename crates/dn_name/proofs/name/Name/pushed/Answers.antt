@@ -1,7 +1,7 @@
 use Rattle.std.proofs.Common.{◌≡◌, [], ◌∷◌, ◌++◌, Some, arith, sym, ap, ◌∙◌}
 use Rattle.dn_name.specs.Name.{wire_len}
-use Rattle.dn_name.proofs.Labels.{made, named, opened}
-use Rattle.dn_name.proofs.Pushed.{padded-push, name-push, wire_len-push, push_fits, push_passes}
+use Rattle.dn_name.proofs.PushedLabelLemmas.{padded-push, name-push, wire_len-push, push_fits, push_passes}
+use Rattle.dn_name.proofs.WireNameLemmas.{made, named, opened}
 use Rattle.dn_name.proofs.name.Name.pushed.Goals as goal
 
 pub returns-then-end-gt254 : goal.returns-then-end-gt254

@@ -1,6 +1,7 @@
 use Rattle.std.proofs.Common.{◌∙◌, ap₂, ℕ, List, nat_eq}
 use lib.Pointwise.{pointwise}
-use Rattle.dn_name.proofs.Ordered.{same_bytes}
+use Rattle.dn_name.specs.Name.{Labels}
+use Rattle.dn_name.proofs.OrderLemmas.{same_bytes}
 use Rattle.dn_name.proofs.name.Name.same.Goals as goal
 
 pub returns-clause-test : goal.returns-clause-test
@@ -8,4 +9,4 @@ returns-clause-test c =
     c.eq.ensures
     ∙ ap₂ (pointwise nat_eq) c.wire.ensures.wire c.wire-2.ensures.wire
     ∙ same_bytes c.lower-left.result c.lower-right.result c.wire.ensures.name.0 c.wire-2.ensures.name.0
-    ∙ ap₂ (λ (xs ys : List (List ℕ)). pointwise (pointwise nat_eq) xs ys) c.lower-left.ensures c.lower-right.ensures
+    ∙ ap₂ (λ (xs ys : Labels). pointwise (pointwise nat_eq) xs ys) c.lower-left.ensures c.lower-right.ensures

@@ -1,5 +1,5 @@
 use Rattle.std.proofs.Common.{arith}
-use Rattle.dn_name.proofs.Writing.{first_written, turn_written, wire_less}
+use Rattle.dn_name.proofs.TextWritingLemmas.{first_written, turn_written, wire_less}
 use Rattle.dn_name.proofs.name.Name.write_text.Goals as goal
 
 pub loop-label-init : goal.loop-label-init

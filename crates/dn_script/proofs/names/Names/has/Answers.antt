@@ -1,7 +1,7 @@
 use Rattle.std.proofs.Common.{◌∙◌, ap}
 use Rattle.std.specs.List.{list_any}
 use Rattle.dn_script.specs.Play.{is_named}
-use Rattle.dn_script.proofs.NamesKept.{any_seen}
+use Rattle.dn_script.proofs.NameLemmas.{any_seen}
 use Rattle.dn_script.proofs.names.Names.has.Goals as goal
 
 pub returns : goal.returns

@@ -1,7 +1,7 @@
 use Rattle.std.proofs.Common.{◌∙◌, ap}
 use Rattle.std.specs.Prelude.{position}
 use Rattle.dn_script.specs.Play.{is_named}
-use Rattle.dn_script.proofs.NamesKept.{position_seen}
+use Rattle.dn_script.proofs.NameLemmas.{position_seen}
 use Rattle.dn_script.proofs.names.Names.number_of.Goals as goal
 
 pub returns : goal.returns

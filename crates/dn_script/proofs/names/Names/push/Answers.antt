@@ -2,7 +2,7 @@ use Rattle.std.proofs.Common.{◌≡◌, ◌++◌, ◌∷◌, [], ◌∙◌, ap,
 use Rattle.std.specs.List.{list_any}
 use lib.Pointwise.{pointwise}
 use Rattle.dn_script.specs.Play.{is_named}
-use Rattle.dn_script.proofs.NamesKept.{any_seen, put_behind}
+use Rattle.dn_script.proofs.NameLemmas.{any_seen, put_behind}
 use Rattle.dn_script.proofs.names.Names.push.Goals as goal
 
 pub returns : goal.returns

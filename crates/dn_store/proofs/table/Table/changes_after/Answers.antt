@@ -1,4 +1,4 @@
-use Rattle.dn_store.proofs.Runs.{differ_seen, fit_seen}
+use Rattle.dn_store.proofs.RunLemmas.{differ_seen, fit_seen}
 use Rattle.dn_store.proofs.table.Table.changes_after.Goals as goal
 
 pub returns-clause-differ : goal.returns-clause-differ

@@ -1,6 +1,6 @@
 use Rattle.std.proofs.Common.{ap}
 use Rattle.std.specs.Prelude.{option_copied}
-use Rattle.dn_store.proofs.Tables.{least_seen}
+use Rattle.dn_store.proofs.TableLemmas.{least_seen}
 use Rattle.dn_store.proofs.table.Table.next_after.Goals as goal
 
 pub returns-clause-least : goal.returns-clause-least

@@ -1,0 +1,4 @@
+pub mod EqualReplies
+pub mod GlueLemmas
+pub mod RowLemmas
+pub mod WalkLemmas

@@ -1,0 +1,6 @@
+pub mod Alike
+pub mod Answer
+pub mod Glue
+pub mod Rows
+pub mod Size
+pub mod Walk

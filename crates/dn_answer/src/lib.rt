@@ -1,0 +1,15 @@
+//! The reply of a zone to a question (RFC 1034 4.3.2, RFC 2308): the walk over delegations and aliases, the additional rows,
+//! and the cut at 512 bytes.
+#![tactic(auto)]
+
+mod alike;
+mod glue;
+mod reply;
+mod replying;
+mod rows;
+mod size;
+mod walk;
+
+pub use alike::equal_replicas_answer_alike;
+pub use reply::{AnswerValue, Rcode, Rr};
+pub use replying::{answer, refused};

@@ -1,0 +1,4 @@
+pub mod CallerLemmas
+pub mod FoldedLemmas
+pub mod RowOrderLemmas
+pub mod TargetLemmas

@@ -1,0 +1,18 @@
+ghost use Rattle.std.specs.Prelude.{◌≡◌, ◌≤◌, ◌++◌, length, OnOk};
+ghost use Rattle.dn_name.specs.Name.{wire_of};
+
+use dn_io::{List, OutOfMemory};
+use dn_name::{Name, NoRoom};
+
+/// The name's bytes on the wire, behind others.
+pub fn push_wire(out: &mut List<u8>, name: &Name) -> Result<(), OutOfMemory>
+    ensures bytes { OnOk result (out.new ≡ out.old ++ wire_of name.now) }
+    ensures most { length (wire_of name.now) ≤ 255 }
+{
+    let mut wire = [0u8; 255];
+    let len = name.wire_len();
+    match name.write_wire(&mut wire, 0) {
+        Ok(_) => out.extend(&wire[..len]),
+        Err(NoRoom) => unreachable!(),
+    }
+}

@@ -1,8 +1,0 @@
-use Rattle.dn_script.proofs.NodePlaced.{placed_parts}
-use Rattle.dn_script.proofs.node.placed_row.Goals as goal
-
-pub returns : goal.returns
-returns c =
-    placed_parts c.args.row c.args.rows.now _ _ _ _ _ _ _ _
-    c.place_of.ensures.place c.split_at.ensures.front c.split_at.ensures.back c.behind_place-behind.ensures c.new-placed.ensures
-    c.in_ok-push_copies.ensures c.in_ok-push.ensures.ok c.in_ok-push_copies-2.ensures

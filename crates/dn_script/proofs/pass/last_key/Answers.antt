@@ -1,7 +1,0 @@
-use Rattle.std.proofs.Common.{ap, sym, ◌∙◌}
-use Rattle.std.specs.Option.{option_copied}
-use Rattle.dn_script.proofs.LastKeys.{last_key_of}
-use Rattle.dn_script.proofs.pass.last_key.Goals as goal
-
-pub returns-in-Some : goal.returns-in-Some
-returns-in-Some c = last_key_of c.args.before c.args.looked.now c.in-Some.unit.now (sym c.last.ensures.value ∙ ap option_copied c.in-Some.is)

@@ -1,6 +1,0 @@
-use Rattle.std.proofs.Common.{◌≡◌, filter, take}
-use Rattle.dn_script.specs.Merge.{wins}
-use Rattle.dn_script.proofs.zone.Zone.winners.Given as goal
-
-abbrev pub invariant-loop-write : goal.invariant-loop-write
-invariant-loop-write l = l.won ≡ filter (wins l.self.table.0) (take l.write-index l.writes)

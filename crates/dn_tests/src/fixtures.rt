@@ -1,0 +1,158 @@
+//! What several tests make their values with.
+
+use dn_io::{List, Moment, OutOfMemory};
+use dn_name::Name;
+use dn_property::Property;
+use dn_rdata::Record;
+use dn_stamp::{ReplicaId, Stamp};
+use dn_store::{Table, UnitKey, UnitValue, Write, fits, rows_at};
+use std::alloc::Global;
+use std::process::Abort;
+use std::test::Fail;
+
+/// The type of a text (RFC 1035 3.3.14).
+pub const TXT: u16 = 16;
+
+/// The first tick of hour 1000.
+pub const EARLY: u64 = 36_000_000_000_000;
+
+/// The first tick of hour 1336: with both intervals of 168 hours, a record of hour 1000 is stale then.
+pub const LATE: u64 = 48_096_000_000_000;
+
+/// The replica that writes.
+pub const OWN: ReplicaId = ReplicaId([1; 16]);
+
+/// The list of these bytes.
+pub fn list_of(alloc: Global, bytes: &[u8]) -> Result<List<u8>, OutOfMemory> {
+    let mut list = List::new(alloc);
+    list.extend(bytes)?;
+    Ok(list)
+}
+
+/// The name that a text spells.
+pub fn name(text: &str) -> Result<Name, Fail> {
+    Ok(
+        Name::from_text(text.as_bytes())
+            .ok()
+            .ok_or("the text is a name")?,
+    )
+}
+
+/// The name that the bytes spell on the wire.
+pub fn name_on_wire(wire: &[u8]) -> Result<Name, Fail> {
+    let (name, _) = Name::read_plain(wire).ok_or("the bytes are a name")?;
+    Ok(name)
+}
+
+/// Whether a name has exactly these bytes on the wire.
+pub fn is_on_wire(name: &Name, wire: &[u8]) -> bool {
+    let mut room = [0; 255];
+    match name.write_wire(&mut room, 0) {
+        Ok(after) => &room[..after] == wire,
+        Err(_) => false,
+    }
+}
+
+/// The moment so many ticks after 1601-01-01.
+pub fn moment(ticks: u64) -> Result<Moment, Fail> {
+    Ok(Moment::of(ticks).ok_or("the moment is past the first hour")?)
+}
+
+/// The key of the node of a name.
+pub fn node(text: &str) -> Result<UnitKey, Fail> {
+    Ok(UnitKey::Node(name(text)?))
+}
+
+/// So many zero bytes.
+pub fn zeros(alloc: Global, len: usize) -> Result<Vec<u8>, Fail> {
+    Ok(vec![in alloc; 0; len]?)
+}
+
+/// The records of these types, hours and data, each with a time to live of 300 seconds.
+pub fn live(alloc: Global, rows: &[(u16, u32, &[u8])]) -> Result<UnitValue, Fail> {
+    let mut list = List::new(alloc);
+    for (rtype, hour, rdata) in rows {
+        list.push(Record::make(alloc, *rtype, 300, *hour, rdata)?)?;
+    }
+    Ok(UnitValue::Live(list))
+}
+
+/// A property of four bytes with this number, and a tail of one.
+pub fn property(alloc: Global, id: u32, number: u32) -> Result<Property, Fail> {
+    Ok(Property {
+        name_length: 1,
+        flag: 0,
+        id,
+        content: list_of(alloc, &number.to_le_bytes())?,
+        tail: list_of(alloc, &[0])?,
+    })
+}
+
+/// Properties of these ids and numbers.
+pub fn properties(alloc: Global, numbers: &[(u32, u32)]) -> Result<UnitValue, Fail> {
+    let mut list = List::new(alloc);
+    for (id, number) in numbers {
+        list.push(property(alloc, *id, *number)?)?;
+    }
+    Ok(UnitValue::Props(list))
+}
+
+/// The last version of a stamp.
+pub const LAST_VERSION: u32 = 4_294_967_294;
+
+/// A stamp of this version, written in second 7.
+pub fn stamp(version: u32) -> Stamp {
+    Stamp {
+        version,
+        seconds: 7,
+        id: ReplicaId([9; 16]),
+    }
+}
+
+/// The table after one write of this version.
+pub fn put_version(
+    rt: &impl Abort,
+    alloc: Global,
+    table: &Table,
+    key: UnitKey,
+    version: u32,
+    value: UnitValue,
+) -> Result<Table, Fail> {
+    assert!(rt; fits(&value));
+    assert!(rt; table.top() < 100);
+    let mut batch = List::new(alloc);
+    batch.push(Write {
+        key,
+        stamp: stamp(version),
+        value,
+    })?;
+    Ok(table.put(&batch)?)
+}
+
+/// The table after one write of version 1.
+pub fn put_one(
+    rt: &impl Abort,
+    alloc: Global,
+    table: &Table,
+    key: UnitKey,
+    value: UnitValue,
+) -> Result<Table, Fail> {
+    put_version(rt, alloc, table, key, 1, value)
+}
+
+/// The table after one write, by which a node has one record more behind its others.
+pub fn put_record(
+    rt: &impl Abort,
+    alloc: Global,
+    table: &Table,
+    owner: &str,
+    record: Record,
+) -> Result<Table, Fail> {
+    let key = node(owner)?;
+    let mut rows = List::from_slice(alloc, rows_at(table, &key))?;
+    rows.push(record)?;
+    put_one(rt, alloc, table, key, UnitValue::Live(rows))
+}
+
+/// Compiles where the values of a type may go to other threads.
+pub fn crosses<T: Send + Sync>(_value: &T) {}

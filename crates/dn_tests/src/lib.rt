@@ -1,0 +1,27 @@
+//! Tests of what the libraries make public, a module a layer. Nothing else stands here.
+#![tactic(auto)]
+
+#[cfg(test)]
+mod answers;
+#[cfg(test)]
+mod fixtures;
+#[cfg(test)]
+mod io;
+#[cfg(test)]
+mod names;
+#[cfg(test)]
+mod passes;
+#[cfg(test)]
+mod scripts;
+#[cfg(test)]
+mod tables;
+#[cfg(test)]
+mod texts;
+#[cfg(test)]
+mod updates;
+#[cfg(test)]
+mod values;
+#[cfg(test)]
+mod worlds;
+#[cfg(test)]
+mod zones;

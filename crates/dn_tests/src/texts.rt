@@ -1,0 +1,341 @@
+use crate::fixtures::{TXT, is_on_wire, list_of, name};
+use dn_admin::{answer_line, command_of};
+use dn_io::List;
+use dn_rdata::{A, CNAME, NS, PTR, SOA};
+use dn_stamp::ReplicaId;
+use dn_text::{
+    TextError, cut, id_of, ip_of, is_replica_name, is_type_a, is_word, moment_of, name_of,
+    number_of, number_within, push_count, push_number, row_line, words_of,
+};
+use dn_update::Limit;
+use dn_zone::{AdminCmd, AdminDone, Answer};
+use std::alloc::Global;
+use std::test::Fail;
+
+#[test]
+fn words_of_lines(rt: HostRuntime) -> Result<(), Fail> {
+    let alloc = rt.alloc();
+    for (line, want) in [
+        ("", ""),
+        (" \t ", ""),
+        ("ask", "ask|"),
+        ("ask a  h.x\tA", "ask|a|h.x|A|"),
+        ("\t ask a ", "ask|a|"),
+        ("a\rb\x0cc \"d e\"", "a\rb\x0cc|\"d|e\"|"),
+    ] {
+        let mut found = List::new(alloc);
+        let words = words_of(alloc, line.as_bytes())?;
+        for word in words {
+            found.extend(word)?;
+            found.push(b'|')?;
+        }
+        assert_eq!(rt; found.as_slice(), want.as_bytes(), "of {line:?}");
+    }
+    Ok(())
+}
+
+#[test]
+fn words_of_one_kind(rt: HostRuntime) {
+    for (word, type_a, is_on) in [
+        ("A", true, false),
+        ("TYPE1", true, false),
+        ("a", false, false),
+        ("AA", false, false),
+        ("TYPE01", false, false),
+        ("AAAA", false, false),
+        ("", false, false),
+        ("on", false, true),
+        ("On", false, false),
+        ("one", false, false),
+    ] {
+        assert_eq!(rt; is_type_a(word.as_bytes()), type_a, "of {word:?}");
+        assert_eq!(rt; is_word(word.as_bytes(), b"on"), is_on, "of {word:?}");
+    }
+}
+
+#[test]
+fn numbers_of_words(rt: HostRuntime) {
+    for (word, most, want) in [
+        ("0", 0, Some(0)),
+        ("1", 0, None),
+        ("87600", 87_600, Some(87_600)),
+        ("87601", 87_600, None),
+        ("4294967295", u32::MAX, Some(u32::MAX)),
+        ("4294967296", u32::MAX, None),
+        ("99999999999999999999", u32::MAX, None),
+        ("00", 9, None),
+        ("01", 9, None),
+        ("+1", 9, None),
+        ("-1", 9, None),
+        ("1 ", 9, None),
+        ("", 9, None),
+        ("a", 9, None),
+    ] {
+        let found = number_of(most, word.as_bytes());
+        assert_eq!(rt; found, want.ok_or(TextError::BadText), "of {word:?}");
+        let wide = number_within(u64::from(most), word.as_bytes());
+        assert_eq!(rt; wide, want.map(u64::from), "of {word:?}");
+    }
+    let most = number_within(u64::MAX, b"18446744073709551615");
+    assert_eq!(rt; most, Some(u64::MAX));
+    assert_eq!(rt; number_within(u64::MAX, b"18446744073709551616"), None);
+}
+
+#[test]
+fn names_of_words(rt: HostRuntime) -> Result<(), Fail> {
+    let name = name_of(b"Ns1.x")?;
+    assert!(rt; is_on_wire(&name, b"\x03Ns1\x01x\0"));
+    for word in ["", "a..b", "a.\\256"] {
+        let error = name_of(word.as_bytes()).err();
+        assert_eq!(rt; error, Some(TextError::BadText), "of {word:?}");
+    }
+    Ok(())
+}
+
+#[test]
+fn moments_of_words(rt: HostRuntime) {
+    for (word, want) in [
+        ("36000000000", Some(36_000_000_000)),
+        ("18446744073709551615", Some(u64::MAX)),
+        ("35999999999", None),
+        ("18446744073709551616", None),
+        ("036000000000", None),
+        ("0", None),
+        ("", None),
+    ] {
+        let found = moment_of(word.as_bytes()).map(|moment| moment.ticks());
+        assert_eq!(rt; found, want.ok_or(TextError::BadText), "of {word:?}");
+    }
+}
+
+#[test]
+fn names_of_replicas(rt: HostRuntime) {
+    for (word, want) in [
+        ("a", true),
+        ("Ns-1_", true),
+        ("abcdefghijklmnopqrstuvwxyz012345", true),
+        ("abcdefghijklmnopqrstuvwxyz0123456", false),
+        ("", false),
+        ("ns.1", false),
+        ("a b", false),
+        ("\u{e9}", false),
+    ] {
+        assert_eq!(rt; is_replica_name(word.as_bytes()), want, "of {word:?}");
+    }
+}
+
+#[test]
+fn identities_of_replicas(rt: HostRuntime) {
+    let id = ReplicaId([
+        0, 17, 34, 51, 68, 85, 102, 119, 136, 153, 170, 187, 204, 221, 238, 255,
+    ]);
+    for (word, want) in [
+        ("00112233445566778899aabbccddeeff", Some(id)),
+        ("00112233445566778899AABBccddEEFF", Some(id)),
+        ("00112233445566778899aabbccddeef", None),
+        ("00112233445566778899aabbccddeeff0", None),
+        ("00112233445566778899aabbccddeeff00", None),
+        ("00112233445566778899aabbccddeefg", None),
+        ("", None),
+    ] {
+        assert_eq!(rt; id_of(word.as_bytes()), want, "of {word:?}");
+    }
+}
+
+#[test]
+fn parts_of_words(rt: HostRuntime) -> Result<(), Fail> {
+    for (word, before, behind) in [
+        ("a.b.c", "a", "b.c"),
+        (".a", "", "a"),
+        ("a.", "a", ""),
+        (".", "", ""),
+    ] {
+        let (first, rest) = cut(word.as_bytes(), b'.').ok_or("the word has a dot")?;
+        assert_eq!(rt; first, before.as_bytes(), "of {word:?}");
+        assert_eq!(rt; rest, behind.as_bytes(), "of {word:?}");
+    }
+    for word in ["", "a:b"] {
+        assert!(rt; cut(word.as_bytes(), b'.').is_none(), "of {word:?}");
+    }
+    Ok(())
+}
+
+#[test]
+fn addresses_of_words(rt: HostRuntime) {
+    for (word, want) in [
+        ("10.0.0.1", Some([10, 0, 0, 1])),
+        ("255.255.255.255", Some([255; 4])),
+        ("0.0.0.0", Some([0; 4])),
+        ("10.0.0.256", None),
+        ("10.0.0", None),
+        ("10.0.0.1.2", None),
+        ("10.0.0.", None),
+        ("10..0.1", None),
+        ("10.0.0.01", None),
+        ("10.0.0.a", None),
+        ("", None),
+    ] {
+        assert_eq!(rt; ip_of(word.as_bytes()), want, "of {word:?}");
+    }
+}
+
+#[test]
+fn numbers_behind_what_they_count(rt: HostRuntime) -> Result<(), Fail> {
+    let mut out = list_of(rt.alloc(), b"a ")?;
+    push_number(rt.alloc(), &mut out, 0)?;
+    push_number(rt.alloc(), &mut out, u64::MAX)?;
+    push_count(rt.alloc(), &mut out, b" of ", 120)?;
+    let want = b"a 018446744073709551615 of 120".as_slice();
+    assert_eq!(rt; out.as_slice(), want);
+    Ok(())
+}
+
+/// Data of each type that has a text, of another type, and names and numbers that are cut short.
+#[test]
+fn lines_of_rows(rt: HostRuntime) -> Result<(), Fail> {
+    let rows: [(u16, &[u8], &str); 8] = [
+        (A, &[192, 0, 2, 10], "W\\032.x 3600 A 192.0.2.10"),
+        (A, &[0], "W\\032.x 3600 A 0"),
+        (NS, b"\x02ns\x07example\0", "W\\032.x 3600 NS ns.example"),
+        (
+            SOA,
+            b"\x01m\0\x01r\0\0\0\0\x01\0\0\x03\x84\0\0\x02\x58\0\x01\x51\x80\0\0\x0e\x10",
+            "W\\032.x 3600 SOA m r 1 900 600 86400 3600",
+        ),
+        (SOA, b"\0\0\x01", "W\\032.x 3600 SOA . . 16777216 0 0 0 0"),
+        (PTR, b"\x02ns", "W\\032.x 3600 PTR "),
+        (CNAME, b"\0", "W\\032.x 3600 CNAME ."),
+        (TXT, b"\x01a", "W\\032.x 3600 TYPE16 "),
+    ];
+    let owner = name("W\\032.x")?;
+    for (rtype, rdata, want) in rows {
+        let line = row_line(rt.alloc(), &owner, 3600, rtype, rdata)?;
+        assert_eq!(rt; line.as_slice(), want.as_bytes());
+    }
+    let root = row_line(rt.alloc(), &name(".")?, u32::MAX, A, &[0])?;
+    assert_eq!(rt; root.as_slice(), b". 4294967295 A 0".as_slice());
+    Ok(())
+}
+
+/// A command as its last words, an interval with its name, and an addition as `add HOUR` and the line of its row.
+fn shown(alloc: Global, cmd: &AdminCmd) -> Result<List<u8>, Fail> {
+    let mut out = List::new(alloc);
+    match cmd {
+        AdminCmd::AgingOn => out.extend(b"on")?,
+        AdminCmd::AgingOff => out.extend(b"off")?,
+        AdminCmd::NoRefresh(hours) => {
+            push_count(alloc, &mut out, b"norefresh ", u64::from(*hours))?;
+        }
+        AdminCmd::Refresh(hours) => push_count(alloc, &mut out, b"refresh ", u64::from(*hours))?,
+        AdminCmd::Add {
+            name,
+            ttl,
+            rtype,
+            rdata,
+            hour,
+        } => {
+            push_count(alloc, &mut out, b"add ", u64::from(*hour))?;
+            out.extend(b" ")?;
+            let line = row_line(alloc, name, *ttl, *rtype, rdata.as_slice())?;
+            out.extend(line.as_slice())?;
+        }
+    }
+    Ok(out)
+}
+
+#[test]
+fn commands_of_words(rt: HostRuntime) -> Result<(), Fail> {
+    let alloc = rt.alloc();
+    for (line, want) in [
+        ("aging on", "on"),
+        ("aging off", "off"),
+        ("norefresh 0", "norefresh 0"),
+        ("refresh 87600", "refresh 87600"),
+        ("add H.x 60 A 10.0.0.1", "add 0 H.x 60 A 10.0.0.1"),
+        ("add h.x 0 TYPE1 10.0.0.1", "add 0 h.x 0 A 10.0.0.1"),
+        (
+            "add h.x 4294967295 A 10.0.0.1 hour 1000",
+            "add 1000 h.x 4294967295 A 10.0.0.1",
+        ),
+        ("add h.x 60 A 10.0.0.1 hour 0", "add 0 h.x 60 A 10.0.0.1"),
+    ] {
+        let words = words_of(alloc, line.as_bytes())?;
+        let cmd = command_of(alloc, &words)?;
+        let found = shown(alloc, &cmd)?;
+        assert_eq!(rt; found.as_slice(), want.as_bytes(), "of {line:?}");
+    }
+    Ok(())
+}
+
+#[test]
+fn words_of_no_commands(rt: HostRuntime) -> Result<(), Fail> {
+    let alloc = rt.alloc();
+    for line in [
+        "",
+        "on",
+        "aging",
+        "aging On",
+        "aging on on",
+        "norefresh",
+        "norefresh 87601",
+        "refresh 87601",
+        "refresh 1 2",
+        "norefresh -1",
+        "add",
+        "add h.x 60 A",
+        "add h..x 60 A 10.0.0.1",
+        "add h.x 4294967296 A 10.0.0.1",
+        "add h.x 60 AAAA 10.0.0.1",
+        "add h.x 60 A 10.0.0.1 hour",
+        "add h.x 60 A 10.0.0.1 when 1",
+        "add h.x 60 A 10.0.0.1 hour 4294967296",
+        "add h.x 60 A 10.0.0.1 hour 1 1",
+    ] {
+        let words = words_of(alloc, line.as_bytes())?;
+        let error = command_of(alloc, &words).err();
+        assert_eq!(rt; error, Some(TextError::BadText), "of {line:?}");
+    }
+    Ok(())
+}
+
+#[test]
+fn lines_of_answers(rt: HostRuntime) -> Result<(), Fail> {
+    let finished = Answer::Finished {
+        start: 4,
+        end: 7,
+        removed: 3,
+        entombed: 2,
+        deleted: 1,
+        skipped: 5,
+    };
+    for (answer, want) in [
+        (Answer::Admin(AdminDone::Written { units: 12 }), "ok 12\n"),
+        (Answer::Admin(AdminDone::Unchanged), "ok 0\n"),
+        (Answer::Admin(AdminDone::NotInZone), "not in zone\n"),
+        (Answer::Begun, "begun\n"),
+        (Answer::NotDue, "not due\n"),
+        (Answer::Busy { hour: 1336 }, "busy 1336\n"),
+        (Answer::Moved, "moved\n"),
+        (
+            finished,
+            "finished start 4 end 7 removed 3 entombed 2 deleted 1 skipped 5\n",
+        ),
+        (Answer::Void { props_usn: 4 }, "void 4\n"),
+        (Answer::Idle, "idle\n"),
+        (Answer::Merged { won: 2 }, "merged 2\n"),
+        (
+            Answer::Gap {
+                cursor: 20,
+                from: 40,
+            },
+            "gap 20 40\n",
+        ),
+        (Answer::Refused(Limit::NodeSize), "refused node-size\n"),
+        (Answer::Refused(Limit::Version), "refused version\n"),
+        (Answer::Refused(Limit::Changes), "refused changes\n"),
+    ] {
+        let line = answer_line(rt.alloc(), answer)?;
+        assert_eq!(rt; line.as_slice(), want.as_bytes());
+    }
+    Ok(())
+}

@@ -1,0 +1,4 @@
+pub mod AddressLemmas
+pub mod CallerLemmas
+pub mod NumberLemmas
+pub mod NumbersTextLemmas

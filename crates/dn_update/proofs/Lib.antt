@@ -1,0 +1,4 @@
+pub mod AddedLemmas
+pub mod CallerLemmas
+pub mod PlacedLemmas
+pub mod RecordSetLemmas

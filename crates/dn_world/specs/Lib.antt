@@ -1,0 +1,3 @@
+pub mod Ask
+pub mod Laws
+pub mod World

@@ -1,0 +1,12 @@
+//! Replicas, their zones, and the packets between them: what each event makes of a world, and what holds of every world.
+#![tactic(auto)]
+
+mod event;
+mod laws;
+mod replication;
+mod replies;
+mod world;
+
+pub use event::{WorldAnswer, WorldEvent, WorldNo};
+pub use laws::replicas_answer_alike;
+pub use world::{Post, Replica, World};

@@ -1,0 +1,12 @@
+pub mod AddLemmas
+pub mod AgingEvents
+pub mod AgingPasses
+pub mod AgingSound
+pub mod AgingSteps
+pub mod CallerLemmas
+pub mod CreationLemmas
+pub mod Keeping
+pub mod OwnWrites
+pub mod SentLemmas
+pub mod SettingLemmas
+pub mod WinnerLemmas

@@ -1,0 +1,17 @@
+use Rattle.std.proofs.Common.{◌≤◌, length, arith}
+use Rattle.dn_zone.proofs.WinnerLemmas.{won_taken}
+use Rattle.dn_zone.proofs.zone.Zone.merge.Goals as goal
+
+pub after_merge-requires-clause-keys : goal.after_merge-requires-clause-keys
+after_merge-requires-clause-keys c =
+    (won_taken c.args.self.now.table.0 c.changes.inside.units c.as_slice.result.now c.in_ok-won.won c.changes.invariant c.as_slice.ensures c.in_ok-won.ensures).keys
+
+pub after_merge-requires-clause-values : goal.after_merge-requires-clause-values
+after_merge-requires-clause-values c =
+    (won_taken c.args.self.now.table.0 c.changes.inside.units c.as_slice.result.now c.in_ok-won.won c.changes.invariant c.as_slice.ensures c.in_ok-won.ensures).values
+
+pub overflow_cast-count : goal.overflow_cast-count
+overflow_cast-count c =
+    let most : length c.in_ok-won.won ≤ 64000 =
+    (won_taken c.args.self.now.table.0 c.changes.inside.units c.as_slice.result.now c.in_ok-won.won c.changes.invariant c.as_slice.ensures c.in_ok-won.ensures).count in
+    omega arith

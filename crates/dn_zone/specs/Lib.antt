@@ -1,0 +1,6 @@
+pub mod Aging
+pub mod Creation
+pub mod Merge
+pub mod Outcome
+pub mod Settings
+pub mod Zone

@@ -1,0 +1,10 @@
+-- What a body tells of an event is the zone's step: the zone and the answer behind it.
+use Rattle.std.specs.Prelude.{◌≡◌}
+use Rattle.dn_zone.specs.declared.event.Answer.{Answer}
+use Rattle.dn_zone.specs.declared.zone.Prepared.{Prepared}
+use Rattle.dn_zone.specs.declared.zone.Prepared.TheVariants.{Same, Became}
+use Rattle.dn_zone.specs.declared.zone.Zone.{Zone}
+
+abbrev pub Prepares : Prepared → Zone → Zone × Answer → Type 0
+Prepares (Same answer) zone after = after ≡ (zone, answer)
+Prepares (Became next answer) zone after = after ≡ (next, answer)

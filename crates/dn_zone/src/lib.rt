@@ -1,0 +1,17 @@
+//! A zone on one replica: what commands, passes and changes from other replicas make of it, one event after another.
+#![tactic(auto)]
+
+mod administering;
+mod changes;
+mod creation;
+mod cursors;
+mod event;
+mod merging;
+mod passing;
+mod settings;
+mod zone;
+
+pub use changes::changes_of;
+pub use cursors::Cursors;
+pub use event::{AdminCmd, AdminDone, Answer, Event};
+pub use zone::{Prepared, Zone};

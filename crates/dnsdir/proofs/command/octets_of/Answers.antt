@@ -1,8 +1,0 @@
-use Rattle.std.proofs.Common.{sym, ◌∙◌}
-use Rattle.dnsdir.proofs.Numbers.{fourth_missing}
-use Rattle.dnsdir.proofs.command.octets_of.Goals as goal
-
-pub returns-in_err-octet_of-4 : goal.returns-in_err-octet_of-4
-returns-in_err-octet_of-4 c =
-    c.from_residual-in_err-octet_of-4.ensures
-    ∙ sym (fourth_missing c.args.first.now c.args.second.now c.args.third.now c.args.fourth.now c.in_ok-octet_of.field-0 c.in_ok-octet_of-2.field-0 c.in_ok-octet_of-3.field-0 (sym c.octet_of.ensures ∙ c.in_ok-octet_of.was) (sym c.octet_of-2.ensures ∙ c.in_ok-octet_of-2.was) (sym c.octet_of-3.ensures ∙ c.in_ok-octet_of-3.was) (sym c.octet_of-4.ensures ∙ c.in_err-octet_of-4.was))
