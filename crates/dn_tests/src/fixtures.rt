@@ -1,6 +1,6 @@
 //! What several tests make their values with.
 
-use dn_io::{List, Moment, OutOfMemory};
+use dn_io::{List, Moment};
 use dn_name::Name;
 use dn_property::Property;
 use dn_rdata::Record;
@@ -8,7 +8,6 @@ use dn_stamp::{ReplicaId, Stamp};
 use dn_store::{Table, UnitKey, UnitValue, Write, fits, rows_at};
 use std::alloc::Global;
 use std::process::Abort;
-use std::test::Fail;
 
 /// The type of a text (RFC 1035 3.3.14).
 pub const TXT: u16 = 16;
@@ -23,25 +22,23 @@ pub const LATE: u64 = 48_096_000_000_000;
 pub const OWN: ReplicaId = ReplicaId([1; 16]);
 
 /// The list of these bytes.
-pub fn list_of(alloc: Global, bytes: &[u8]) -> Result<List<u8>, OutOfMemory> {
+pub fn list_of(rt: &impl Abort, alloc: Global, bytes: &[u8]) -> List<u8> {
     let mut list = List::new(alloc);
-    list.extend(bytes)?;
-    Ok(list)
+    list.extend(bytes).expect(rt, "memory");
+    list
 }
 
 /// The name that a text spells.
-pub fn name(text: &str) -> Result<Name, Fail> {
-    Ok(
-        Name::from_text(text.as_bytes())
-            .ok()
-            .ok_or("the text is a name")?,
-    )
+pub fn name(rt: &impl Abort, text: &str) -> Name {
+    Name::from_text(text.as_bytes())
+        .ok()
+        .expect(rt, "the text is a name")
 }
 
 /// The name that the bytes spell on the wire.
-pub fn name_on_wire(wire: &[u8]) -> Result<Name, Fail> {
-    let (name, _) = Name::read_plain(wire).ok_or("the bytes are a name")?;
-    Ok(name)
+pub fn name_on_wire(rt: &impl Abort, wire: &[u8]) -> Name {
+    let (name, _) = Name::read_plain(wire).expect(rt, "the bytes are a name");
+    name
 }
 
 /// Whether a name has exactly these bytes on the wire.
@@ -54,47 +51,49 @@ pub fn is_on_wire(name: &Name, wire: &[u8]) -> bool {
 }
 
 /// The moment so many ticks after 1601-01-01.
-pub fn moment(ticks: u64) -> Result<Moment, Fail> {
-    Ok(Moment::of(ticks).ok_or("the moment is past the first hour")?)
+pub fn moment(rt: &impl Abort, ticks: u64) -> Moment {
+    Moment::of(ticks).expect(rt, "the moment is past the first hour")
 }
 
 /// The key of the node of a name.
-pub fn node(text: &str) -> Result<UnitKey, Fail> {
-    Ok(UnitKey::Node(name(text)?))
+pub fn node(rt: &impl Abort, text: &str) -> UnitKey {
+    UnitKey::Node(name(rt, text))
 }
 
 /// So many zero bytes.
-pub fn zeros(alloc: Global, len: usize) -> Result<Vec<u8>, Fail> {
-    Ok(vec![in alloc; 0; len]?)
+pub fn zeros(rt: &impl Abort, alloc: Global, len: usize) -> Vec<u8> {
+    vec![in alloc; 0; len].expect(rt, "memory")
 }
 
 /// The records of these types, hours and data, each with a time to live of 300 seconds.
-pub fn live(alloc: Global, rows: &[(u16, u32, &[u8])]) -> Result<UnitValue, Fail> {
+pub fn live(rt: &impl Abort, alloc: Global, rows: &[(u16, u32, &[u8])]) -> UnitValue {
     let mut list = List::new(alloc);
     for (rtype, hour, rdata) in rows {
-        list.push(Record::make(alloc, *rtype, 300, *hour, rdata)?)?;
+        list.push(Record::make(alloc, *rtype, 300, *hour, rdata).expect(rt, "memory"))
+            .expect(rt, "memory");
     }
-    Ok(UnitValue::Live(list))
+    UnitValue::Live(list)
 }
 
 /// A property of four bytes with this number, and a tail of one.
-pub fn property(alloc: Global, id: u32, number: u32) -> Result<Property, Fail> {
-    Ok(Property {
+pub fn property(rt: &impl Abort, alloc: Global, id: u32, number: u32) -> Property {
+    Property {
         name_length: 1,
         flag: 0,
         id,
-        content: list_of(alloc, &number.to_le_bytes())?,
-        tail: list_of(alloc, &[0])?,
-    })
+        content: list_of(rt, alloc, &number.to_le_bytes()),
+        tail: list_of(rt, alloc, &[0]),
+    }
 }
 
 /// Properties of these ids and numbers.
-pub fn properties(alloc: Global, numbers: &[(u32, u32)]) -> Result<UnitValue, Fail> {
+pub fn properties(rt: &impl Abort, alloc: Global, numbers: &[(u32, u32)]) -> UnitValue {
     let mut list = List::new(alloc);
     for (id, number) in numbers {
-        list.push(property(alloc, *id, *number)?)?;
+        list.push(property(rt, alloc, *id, *number))
+            .expect(rt, "memory");
     }
-    Ok(UnitValue::Props(list))
+    UnitValue::Props(list)
 }
 
 /// The last version of a stamp.
@@ -117,16 +116,18 @@ pub fn put_version(
     key: UnitKey,
     version: u32,
     value: UnitValue,
-) -> Result<Table, Fail> {
+) -> Table {
     assert!(rt; fits(&value));
     assert!(rt; table.top() < 100);
     let mut batch = List::new(alloc);
-    batch.push(Write {
-        key,
-        stamp: stamp(version),
-        value,
-    })?;
-    Ok(table.put(&batch)?)
+    batch
+        .push(Write {
+            key,
+            stamp: stamp(version),
+            value,
+        })
+        .expect(rt, "memory");
+    table.put(&batch).expect(rt, "memory")
 }
 
 /// The table after one write of version 1.
@@ -136,7 +137,7 @@ pub fn put_one(
     table: &Table,
     key: UnitKey,
     value: UnitValue,
-) -> Result<Table, Fail> {
+) -> Table {
     put_version(rt, alloc, table, key, 1, value)
 }
 
@@ -147,12 +148,17 @@ pub fn put_record(
     table: &Table,
     owner: &str,
     record: Record,
-) -> Result<Table, Fail> {
-    let key = node(owner)?;
-    let mut rows = List::from_slice(alloc, rows_at(table, &key))?;
-    rows.push(record)?;
+) -> Table {
+    let key = node(rt, owner);
+    let mut rows = List::from_slice(alloc, rows_at(table, &key)).expect(rt, "memory");
+    rows.push(record).expect(rt, "memory");
     put_one(rt, alloc, table, key, UnitValue::Live(rows))
 }
 
 /// Compiles where the values of a type may go to other threads.
 pub fn crosses<T: Send + Sync>(_value: &T) {}
+
+/// The bytes are these, in the case that `of` names.
+pub fn check_bytes(rt: &impl Abort, found: &[u8], want: &[u8], of: &str) {
+    assert_eq!(rt; found, want, "of {of:?}");
+}

@@ -1,41 +1,40 @@
 use crate::fixtures::{crosses, list_of};
 use dn_io::{
-    Addr, Duplicate, Failed, Line, LineBuf, LineError, List, MemSink, MemSource, Moment,
-    OutOfMemory, Sink, Source, Status, StdSink, StdSource, SureSink, SureSource, read_line,
-    write_all,
+    Addr, Duplicate, Failed, Line, LineBuf, LineError, List, MemSink, MemSource, Moment, Sink,
+    Source, Status, StdSink, StdSource, SureSink, SureSource, read_line, write_all,
 };
 use std::alloc::Global;
 use std::io::{self, ErrorKind, Read, Write};
-use std::test::Fail;
+use std::process::Abort;
 
 /// The list of one call's number.
-fn fails_at(alloc: Global, call: u64) -> Result<List<u64>, OutOfMemory> {
+fn fails_at(rt: &impl Abort, alloc: Global, call: u64) -> List<u64> {
     let mut fails = List::new(alloc);
-    fails.push(call)?;
-    Ok(fails)
+    fails.push(call).expect(rt, "memory");
+    fails
 }
 
 /// What four reads of a line answer: a text with a bar behind it, `.` at the end, `r` or `t` for an error.
-fn shown<S: Source>(alloc: Global, source: &mut S) -> Result<List<u8>, OutOfMemory> {
+fn shown<S: Source>(rt: &impl Abort, alloc: Global, source: &mut S) -> List<u8> {
     let mut shown = List::new(alloc);
-    let mut lines = LineBuf::new(alloc)?;
+    let mut lines = LineBuf::new(alloc).expect(rt, "memory");
     for _ in 0..4 {
         match read_line(alloc, source, &mut lines) {
             Ok(Line::Text(text)) => {
-                shown.extend(text.as_slice())?;
-                shown.push(b'|')?;
+                shown.extend(text.as_slice()).expect(rt, "memory");
+                shown.push(b'|').expect(rt, "memory");
             }
-            Ok(Line::End) => shown.push(b'.')?,
-            Err(LineError::ReadFault) => shown.push(b'r')?,
-            Err(LineError::TooLong) => shown.push(b't')?,
-            Err(LineError::OutOfMemory) => return Err(OutOfMemory),
+            Ok(Line::End) => shown.push(b'.').expect(rt, "memory"),
+            Err(LineError::ReadFault) => shown.push(b'r').expect(rt, "memory"),
+            Err(LineError::TooLong) => shown.push(b't').expect(rt, "memory"),
+            Err(LineError::OutOfMemory) => panic!(rt; "memory"),
         }
     }
-    Ok(shown)
+    shown
 }
 
 #[test]
-fn lines_of_an_input(rt: HostRuntime) -> Result<(), Fail> {
+fn lines_of_an_input(rt: HostRuntime) {
     let alloc = rt.alloc();
     let cases = [
         ("", "...."),
@@ -46,50 +45,48 @@ fn lines_of_an_input(rt: HostRuntime) -> Result<(), Fail> {
         ("a\rb\n\r", "a\rb|\r|.."),
     ];
     for (input, want) in cases {
-        let bytes = list_of(alloc, input.as_bytes())?;
+        let bytes = list_of(&rt, alloc, input.as_bytes());
         let mut source = MemSource::of(bytes, List::new(alloc));
         assert_eq!(rt;
-            shown(alloc, &mut source)?.as_slice(),
+            shown(&rt, alloc, &mut source).as_slice(),
             want.as_bytes(),
             "at {input:?}"
         );
-        let mut sure = SureSource::of(list_of(alloc, input.as_bytes())?);
+        let mut sure = SureSource::of(list_of(&rt, alloc, input.as_bytes()));
         assert_eq!(rt;
-            shown(alloc, &mut sure)?.as_slice(),
+            shown(&rt, alloc, &mut sure).as_slice(),
             want.as_bytes(),
             "sure, at {input:?}"
         );
         let mut standard = StdSource::of(input.as_bytes());
         assert_eq!(rt;
-            shown(alloc, &mut standard)?.as_slice(),
+            shown(&rt, alloc, &mut standard).as_slice(),
             want.as_bytes(),
             "standard, at {input:?}"
         );
     }
-    Ok(())
 }
 
 // The reads after the fault would succeed, and are not made.
 #[test]
-fn a_read_fault_stays(rt: HostRuntime) -> Result<(), Fail> {
+fn a_read_fault_stays(rt: HostRuntime) {
     let alloc = rt.alloc();
     for (call, want) in [(0, "rrrr"), (1, "a|rrr"), (2, "a|b|rr")] {
-        let mut source = MemSource::of(list_of(alloc, b"a\nb")?, fails_at(alloc, call)?);
+        let mut source = MemSource::of(list_of(&rt, alloc, b"a\nb"), fails_at(&rt, alloc, call));
         assert_eq!(rt;
-            shown(alloc, &mut source)?.as_slice(),
+            shown(&rt, alloc, &mut source).as_slice(),
             want.as_bytes(),
             "at {call}"
         );
     }
     assert_eq!(rt;
-        shown(alloc, &mut StdSource::of(Broken))?.as_slice(),
+        shown(&rt, alloc, &mut StdSource::of(Broken)).as_slice(),
         b"rrrr".as_slice()
     );
-    Ok(())
 }
 
 #[test]
-fn long_lines(rt: HostRuntime) -> Result<(), Fail> {
+fn long_lines(rt: HostRuntime) {
     let alloc = rt.alloc();
     let cases = [
         (200_000, "\n", Some(200_000)),
@@ -100,10 +97,10 @@ fn long_lines(rt: HostRuntime) -> Result<(), Fail> {
         (200_001, "", None),
     ];
     for (count, end, want) in cases {
-        let mut bytes = List::of(vec![in alloc; b'x'; count]?);
-        bytes.extend(end.as_bytes())?;
+        let mut bytes = List::of(vec![in alloc; b'x'; count].expect(&rt, "memory"));
+        bytes.extend(end.as_bytes()).expect(&rt, "memory");
         let mut source = SureSource::of(bytes);
-        let mut lines = LineBuf::new(alloc)?;
+        let mut lines = LineBuf::new(alloc).expect(&rt, "memory");
         let got = match read_line(alloc, &mut source, &mut lines) {
             Ok(Line::Text(text)) => Some(text.len()),
             Ok(Line::End) => Some(0),
@@ -114,14 +111,13 @@ fn long_lines(rt: HostRuntime) -> Result<(), Fail> {
         };
         assert_eq!(rt; got, want, "at {count} and {end:?}");
     }
-    Ok(())
 }
 
 // The sink fails at its second write, and an empty piece makes none.
 #[test]
-fn pieces_are_written_whole(rt: HostRuntime) -> Result<(), Fail> {
+fn pieces_are_written_whole(rt: HostRuntime) {
     let alloc = rt.alloc();
-    let mut sink = MemSink::of(fails_at(alloc, 1)?);
+    let mut sink = MemSink::of(fails_at(&rt, alloc, 1));
     for (piece, want, written) in [
         ("ab", Ok(()), "ab"),
         ("cd", Err(Failed), "ab"),
@@ -140,7 +136,6 @@ fn pieces_are_written_whole(rt: HostRuntime) -> Result<(), Fail> {
     let mut vec = Vec::new(alloc);
     assert_eq!(rt; write_all(&mut StdSink::of(&mut vec), b"ab"), Ok(()));
     assert_eq!(rt; vec.as_slice(), b"ab".as_slice());
-    Ok(())
 }
 
 #[test]
@@ -175,7 +170,7 @@ impl Write for Broken {
 }
 
 #[test]
-fn moments_begin_an_hour_after_1601(rt: HostRuntime) -> Result<(), Fail> {
+fn moments_begin_an_hour_after_1601(rt: HostRuntime) {
     assert_eq!(rt; Moment::of(35_999_999_999), None);
     assert_eq!(rt; Some(Moment::first()), Moment::of(36_000_000_000));
     let cases = [
@@ -184,12 +179,11 @@ fn moments_begin_an_hour_after_1601(rt: HostRuntime) -> Result<(), Fail> {
         (u64::MAX, 512_409_557, 1_844_674_407_370),
     ];
     for (ticks, hour, seconds) in cases {
-        let moment = Moment::of(ticks).ok_or("the moment is past the first hour")?;
+        let moment = Moment::of(ticks).expect(&rt, "the moment is past the first hour");
         assert_eq!(rt; moment.ticks(), ticks);
         assert_eq!(rt; moment.hour(), hour);
         assert_eq!(rt; moment.seconds(), seconds);
     }
-    Ok(())
 }
 
 #[test]
@@ -210,11 +204,11 @@ fn exit_codes_of_statuses(rt: HostRuntime) {
 }
 
 #[test]
-fn lists_and_their_copies(rt: HostRuntime) -> Result<(), Fail> {
+fn lists_and_their_copies(rt: HostRuntime) {
     let alloc = rt.alloc();
-    let mut list = List::from_slice(alloc, b"abc")?;
+    let mut list = List::from_slice(alloc, b"abc").expect(&rt, "memory");
     assert_eq!(rt; list.as_slice(), b"abc".as_slice());
-    list.extend_copies(alloc, b"de")?;
+    list.extend_copies(alloc, b"de").expect(&rt, "memory");
     assert_eq!(rt; list.as_slice(), b"abcde".as_slice());
     assert_eq!(rt; list.len(), 5);
     list.set(1, b'x');
@@ -225,28 +219,26 @@ fn lists_and_their_copies(rt: HostRuntime) -> Result<(), Fail> {
     );
     let mut outer = List::new(alloc);
     assert!(rt; outer.is_empty());
-    outer.push(list)?;
-    let copy = outer.copy(alloc)?;
+    outer.push(list).expect(&rt, "memory");
+    let copy = outer.copy(alloc).expect(&rt, "memory");
     let Some(inner) = copy.get(0) else {
-        return Err("the copy has an item")?;
+        panic!(rt; "the copy has an item");
     };
     assert_eq!(rt; inner.as_slice(), b"axcde".as_slice());
     assert!(rt; !copy.is_empty());
     assert_eq!(rt; copy.into_vec().len(), 1);
     crosses(&outer);
-    Ok(())
 }
 
 #[test]
-fn what_is_outside_may_go_to_other_threads(rt: HostRuntime) -> Result<(), Fail> {
+fn what_is_outside_may_go_to_other_threads(rt: HostRuntime) {
     let alloc = rt.alloc();
     crosses(&MemSource::of(List::new(alloc), List::new(alloc)));
     crosses(&MemSink::of(List::new(alloc)));
-    crosses(&LineBuf::new(alloc)?);
+    crosses(&LineBuf::new(alloc).expect(&rt, "memory"));
     let local = Addr {
         ip: [127, 0, 0, 1],
         port: 53,
     };
     crosses(&local);
-    Ok(())
 }

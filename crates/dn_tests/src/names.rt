@@ -1,7 +1,6 @@
 use crate::fixtures::{crosses, is_on_wire, name_on_wire};
 use dn_name::{Name, NameError, NameFault, NoRoom};
 use std::cmp::Ordering;
-use std::test::Fail;
 
 const ROOT: &[u8] = b"\0";
 
@@ -14,25 +13,24 @@ const SHOUTED: &[u8] = b"\x07EXAMple\x03oRg\0";
 const HOST: &[u8] = b"\x01a\x07example\x03org\0";
 
 #[test]
-fn a_name_and_its_parts(rt: HostRuntime) -> Result<(), Fail> {
+fn a_name_and_its_parts(rt: HostRuntime) {
     let root = Name::root();
     crosses(&root);
     assert_eq!(rt;
         (root.wire_len(), root.labels(), root.parent().is_none()),
         (1, 0, true)
     );
-    let host = name_on_wire(HOST)?;
+    let host = name_on_wire(&rt, HOST);
     assert_eq!(rt; (host.wire_len(), host.labels()), (15, 3));
     let copy = host;
-    let above = copy.parent().ok_or("the name has a label")?;
+    let above = copy.parent().expect(&rt, "the name has a label");
     assert!(rt; is_on_wire(&above, EXAMPLE));
     assert!(rt; is_on_wire(&host, HOST));
-    assert!(rt; is_on_wire(&name_on_wire(SHOUTED)?.lower(), EXAMPLE));
-    Ok(())
+    assert!(rt; is_on_wire(&name_on_wire(&rt, SHOUTED).lower(), EXAMPLE));
 }
 
 #[test]
-fn same_and_under(rt: HostRuntime) -> Result<(), Fail> {
+fn same_and_under(rt: HostRuntime) {
     for (left, right, same, under) in [
         (EXAMPLE, SHOUTED, true, true),
         (ROOT, ROOT, true, true),
@@ -44,15 +42,14 @@ fn same_and_under(rt: HostRuntime) -> Result<(), Fail> {
         (b"\x07example\x03com\0".as_slice(), EXAMPLE, false, false),
         (b"\x01[\0".as_slice(), b"\x01{\0".as_slice(), false, false),
     ] {
-        let (left, right) = (name_on_wire(left)?, name_on_wire(right)?);
+        let (left, right) = (name_on_wire(&rt, left), name_on_wire(&rt, right));
         assert_eq!(rt; (left.same(&right), left.is_under(&right)), (same, under));
     }
-    Ok(())
 }
 
 /// The order of RFC 4034 6.1: each name stands before the next.
 #[test]
-fn the_order_of_names(rt: HostRuntime) -> Result<(), Fail> {
+fn the_order_of_names(rt: HostRuntime) {
     let names: [&[u8]; 11] = [
         b"\0",
         b"\x07example\0",
@@ -68,7 +65,7 @@ fn the_order_of_names(rt: HostRuntime) -> Result<(), Fail> {
     ];
     for (place, left) in names.iter().enumerate() {
         for (other, right) in names.iter().enumerate() {
-            let (left, right) = (name_on_wire(left)?, name_on_wire(right)?);
+            let (left, right) = (name_on_wire(&rt, left), name_on_wire(&rt, right));
             assert_eq!(rt;
                 left.compare(&right),
                 place.cmp(&other),
@@ -76,14 +73,13 @@ fn the_order_of_names(rt: HostRuntime) -> Result<(), Fail> {
             );
         }
     }
-    let (example, shouted) = (name_on_wire(EXAMPLE)?, name_on_wire(SHOUTED)?);
+    let (example, shouted) = (name_on_wire(&rt, EXAMPLE), name_on_wire(&rt, SHOUTED));
     assert_eq!(rt; example.compare(&shouted), Ordering::Equal);
-    Ok(())
 }
 
 #[test]
-fn written_where_there_is_room(rt: HostRuntime) -> Result<(), Fail> {
-    let org = name_on_wire(ORG)?;
+fn written_where_there_is_room(rt: HostRuntime) {
+    let org = name_on_wire(&rt, ORG);
     let mut out = [9; 7];
     assert_eq!(rt; org.write_wire(&mut out, 3), Err(NoRoom));
     assert_eq!(rt; org.write_wire(&mut out, usize::MAX), Err(NoRoom));
@@ -92,7 +88,6 @@ fn written_where_there_is_room(rt: HostRuntime) -> Result<(), Fail> {
     assert_eq!(rt; out.as_slice(), b"\x09\x09\x03org\0".as_slice());
     assert_eq!(rt; org.write_wire(&mut out, 0), Ok(5));
     assert_eq!(rt; out.as_slice(), b"\x03org\0g\0".as_slice());
-    Ok(())
 }
 
 /// A wire of three labels of 63 bytes and one of `last`.
@@ -135,7 +130,7 @@ fn read_from_bytes(rt: HostRuntime) {
 }
 
 #[test]
-fn texts_of_names(rt: HostRuntime) -> Result<(), Fail> {
+fn texts_of_names(rt: HostRuntime) {
     for (text, wire) in [
         (b".".as_slice(), b"\0".as_slice()),
         (b"a", b"\x01a\0"),
@@ -146,10 +141,9 @@ fn texts_of_names(rt: HostRuntime) -> Result<(), Fail> {
         (b"\\000\\255.\\ ~!", b"\x02\x00\xff\x03 ~!\0"),
         (b"_sip._tcp.*", b"\x04_sip\x04_tcp\x01*\0"),
     ] {
-        let name = Name::from_text(text).ok().ok_or("the text is a name")?;
+        let name = Name::from_text(text).ok().expect(&rt, "the text is a name");
         assert!(rt; is_on_wire(&name, wire));
     }
-    Ok(())
 }
 
 #[test]
@@ -182,7 +176,7 @@ fn texts_of_no_names(rt: HostRuntime) {
 const LONGEST: &[u8] = b"aaaaaaaaaaaaaaaaaaaaaaaaaaaaaaaaaaaaaaaaaaaaaaaaaaaaaaaaaaaaaaa.";
 
 #[test]
-fn long_texts(rt: HostRuntime) -> Result<(), Fail> {
+fn long_texts(rt: HostRuntime) {
     for (front, count, last, error) in [
         (b"".as_slice(), 1, 0, None),
         (b"", 0, 64, Some((NameFault::LabelTooLong, 0))),
@@ -193,19 +187,19 @@ fn long_texts(rt: HostRuntime) -> Result<(), Fail> {
         (b"\\065.", 3, 59, None),
         (b"\\065.", 3, 60, Some((NameFault::NameTooLong, 197))),
     ] {
-        let mut text = Vec::from_slice(rt.alloc(), front)?;
+        let mut text = Vec::from_slice(rt.alloc(), front).expect(&rt, "memory");
         for _ in 0..count {
-            text.extend_from_slice(LONGEST)?;
+            text.extend_from_slice(LONGEST).expect(&rt, "memory");
         }
         for _ in 0..last {
-            text.push(b'a')?;
+            text.push(b'a').expect(&rt, "memory");
         }
         let found = Name::from_text(text.as_slice());
         let expected = error.map(|(kind, place)| NameError { kind, place });
         assert_eq!(rt; found.err(), expected);
         // a bad escape behind changes only what else would be a name
         let place = text.len();
-        text.push(b'\\')?;
+        text.push(b'\\').expect(&rt, "memory");
         let found = Name::from_text(text.as_slice());
         assert_eq!(rt;
             found.err(),
@@ -215,11 +209,10 @@ fn long_texts(rt: HostRuntime) -> Result<(), Fail> {
             }))
         );
     }
-    Ok(())
 }
 
 #[test]
-fn names_as_text(rt: HostRuntime) -> Result<(), Fail> {
+fn names_as_text(rt: HostRuntime) {
     for (wire, text) in [
         (b"\0".as_slice(), b".".as_slice()),
         (b"\x01a\0", b"a"),
@@ -227,32 +220,30 @@ fn names_as_text(rt: HostRuntime) -> Result<(), Fail> {
         (b"\x04_sip\x01*\x03a-9\0", b"_sip.*.a-9"),
         (b"\x05.\\ \x00\xff\x01b\0", b"\\046\\092\\032\\000\\255.b"),
     ] {
-        let name = name_on_wire(wire)?;
+        let name = name_on_wire(&rt, wire);
         let mut out = [b'?'; 1020];
         let len = name.write_text(&mut out);
         assert_eq!(rt; len, text.len());
         assert_eq!(rt; out.iter().take(len).eq(text.iter()), true);
         assert_eq!(rt; out.iter().skip(len).all(|byte| *byte == b'?'), true);
     }
-    Ok(())
 }
 
 /// The longest text has 1,003 bytes: 250 bytes of labels, each in four, and three dots between them.
 #[test]
-fn the_longest_text(rt: HostRuntime) -> Result<(), Fail> {
+fn the_longest_text(rt: HostRuntime) {
     let mut text = Vec::new(rt.alloc());
     for len in [63, 63, 63, 61] {
         for _ in 0..len {
-            text.extend_from_slice(b"\\200")?;
+            text.extend_from_slice(b"\\200").expect(&rt, "memory");
         }
-        text.push(b'.')?;
+        text.push(b'.').expect(&rt, "memory");
     }
     let name = Name::from_text(text.as_slice())
         .ok()
-        .ok_or("the text is a name")?;
+        .expect(&rt, "the text is a name");
     let mut out = [0; 1020];
     let len = name.write_text(&mut out);
     assert_eq!(rt; (name.wire_len(), len), (255, text.len() - 1));
     assert_eq!(rt; out.iter().take(len).eq(text.iter().take(len)), true);
-    Ok(())
 }

@@ -2,25 +2,20 @@ use dn_io::{List, MemSink, MemSource, Status};
 use dn_script::replay;
 use std::alloc::Global;
 use std::process::Abort;
-use std::test::Fail;
 
 /// Each script is these start lines and the lines of a case, and has the case's output and status.
-fn check_scripts(
-    rt: &impl Abort,
-    alloc: Global,
-    start: &str,
-    cases: &[(&str, &str, Status)],
-) -> Result<(), Fail> {
+fn check_scripts(rt: &impl Abort, alloc: Global, start: &str, cases: &[(&str, &str, Status)]) {
     for (lines, output, status) in cases {
-        let mut script = Vec::from_slice(alloc, start.as_bytes())?;
-        script.extend_from_slice(lines.as_bytes())?;
+        let mut script = Vec::from_slice(alloc, start.as_bytes()).expect(rt, "memory");
+        script
+            .extend_from_slice(lines.as_bytes())
+            .expect(rt, "memory");
         let mut source = MemSource::of(List::of(script), List::new(alloc));
         let mut sink = MemSink::of(List::new(alloc));
         let ended = replay(alloc, &mut source, &mut sink);
         assert_eq!(rt; ended, *status, "of {lines:?}");
         assert_eq!(rt; sink.written(), output.as_bytes(), "of {lines:?}");
     }
-    Ok(())
 }
 
 /// A zone of hour 1000.
@@ -31,7 +26,7 @@ zone create a x admin.x
 ";
 
 #[test]
-fn scripts_of_one_replica(rt: HostRuntime) -> Result<(), Fail> {
+fn scripts_of_one_replica(rt: HostRuntime) {
     check_scripts(
         &rt,
         rt.alloc(),
@@ -133,7 +128,7 @@ status NOERROR aa 1 tc 1 answer 0 authority 0 additional 0
 ";
 
 #[test]
-fn scripts_that_ask(rt: HostRuntime) -> Result<(), Fail> {
+fn scripts_that_ask(rt: HostRuntime) {
     check_scripts(
         &rt,
         rt.alloc(),
@@ -241,7 +236,7 @@ x 3600 SOA ns1.x admin.x 6 900 600 86400 3600
 ";
 
 #[test]
-fn scripts_of_aging(rt: HostRuntime) -> Result<(), Fail> {
+fn scripts_of_aging(rt: HostRuntime) {
     check_scripts(
         &rt,
         rt.alloc(),
@@ -330,7 +325,7 @@ h.x 60 A 10.0.0.1
 ";
 
 #[test]
-fn scripts_of_two_replicas(rt: HostRuntime) -> Result<(), Fail> {
+fn scripts_of_two_replicas(rt: HostRuntime) {
     check_scripts(
         &rt,
         rt.alloc(),
@@ -357,45 +352,48 @@ fn scripts_of_two_replicas(rt: HostRuntime) -> Result<(), Fail> {
 }
 
 /// So many replicas, the first of them with so many zones.
-fn crowd(rt: &HostRuntime, replicas: u8, zones: u8) -> Result<String, Fail> {
-    let alloc = rt.alloc();
+fn crowd(rt: &impl Abort, alloc: Global, replicas: u8, zones: u8) -> String {
     let mut script = String::new(alloc);
     for number in 0..replicas {
-        script.push_str(format!(in alloc; "replica r{number} {number:032x} h\n")?.as_str())?;
+        let line = format!(in alloc; "replica r{number} {number:032x} h\n").expect(rt, "memory");
+        script.push_str(line.as_str()).expect(rt, "memory");
     }
     for number in 0..zones {
-        script.push_str(format!(in alloc; "zone create r0 z{number} m\n")?.as_str())?;
+        let line = format!(in alloc; "zone create r0 z{number} m\n").expect(rt, "memory");
+        script.push_str(line.as_str()).expect(rt, "memory");
     }
-    Ok(script)
+    script
 }
 
 #[test]
-fn a_script_has_64_replicas_of_16_zones(rt: HostRuntime) -> Result<(), Fail> {
+fn a_script_has_64_replicas_of_16_zones(rt: HostRuntime) {
     for (replicas, zones, status) in [
         (64, 16, Status::Done),
         (65, 0, Status::BadLine(65)),
         (1, 17, Status::BadLine(18)),
     ] {
-        let script = crowd(&rt, replicas, zones)?;
-        check_scripts(&rt, rt.alloc(), "", &[(script.as_str(), "", status)])?;
+        let script = crowd(&rt, rt.alloc(), replicas, zones);
+        check_scripts(&rt, rt.alloc(), "", &[(script.as_str(), "", status)]);
     }
-    Ok(())
 }
 
 /// Commands that add so many names with a record of hour 1000, and a pass at hour 1336.
-fn names(rt: &HostRuntime, count: u32) -> Result<String, Fail> {
-    let alloc = rt.alloc();
-    let mut script = String::from_str(alloc, "admin a x aging on\n")?;
+fn names(rt: &impl Abort, alloc: Global, count: u32) -> String {
+    let mut script = String::from_str(alloc, "admin a x aging on\n").expect(rt, "memory");
     for number in 0..count {
-        let line = format!(in alloc; "admin a x add n{number}.x 60 A 10.0.0.1 hour 1000\n")?;
-        script.push_str(line.as_str())?;
+        let line = format!(in alloc; "admin a x add n{number}.x 60 A 10.0.0.1 hour 1000\n").expect(
+            rt, "memory",
+        );
+        script.push_str(line.as_str()).expect(rt, "memory");
     }
-    script.push_str("at 48096000000000\npass a x\n")?;
-    Ok(script)
+    script
+        .push_str("at 48096000000000\npass a x\n")
+        .expect(rt, "memory");
+    script
 }
 
 #[test]
-fn a_pass_goes_through_the_whole_zone(rt: HostRuntime) -> Result<(), Fail> {
+fn a_pass_goes_through_the_whole_zone(rt: HostRuntime) {
     for (count, last) in [
         (
             62,
@@ -410,18 +408,17 @@ fn a_pass_goes_through_the_whole_zone(rt: HostRuntime) -> Result<(), Fail> {
             "finished start 133 end 263 removed 130 entombed 130 deleted 0 skipped 0\n",
         ),
     ] {
-        let script = names(&rt, count)?;
-        let mut output = String::from_str(rt.alloc(), "ok 1\n")?;
+        let script = names(&rt, rt.alloc(), count);
+        let mut output = String::from_str(rt.alloc(), "ok 1\n").expect(&rt, "memory");
         for _ in 0..count {
-            output.push_str("ok 1\n")?;
+            output.push_str("ok 1\n").expect(&rt, "memory");
         }
-        output.push_str(last)?;
+        output.push_str(last).expect(&rt, "memory");
         check_scripts(
             &rt,
             rt.alloc(),
             START,
             &[(script.as_str(), output.as_str(), Status::Done)],
-        )?;
+        );
     }
-    Ok(())
 }

@@ -9,29 +9,35 @@ use dn_store::{
 };
 use std::alloc::Global;
 use std::process::Abort;
-use std::test::Fail;
 
 const START: &[u8] = b"\x01m\0\x01r\0....................";
 
 /// The table after a write of a node, of the properties, of a node before it, and again of the first.
-fn written(rt: &impl Abort, alloc: Global) -> Result<Table, Fail> {
-    let mut table = Table::empty(alloc)?;
-    table = put_one(rt, alloc, &table, node("bb.x")?, UnitValue::Gone)?;
+fn written(rt: &impl Abort, alloc: Global) -> Table {
+    let mut table = Table::empty(alloc).expect(rt, "memory");
+    table = put_one(rt, alloc, &table, node(rt, "bb.x"), UnitValue::Gone);
     table = put_one(
         rt,
         alloc,
         &table,
         UnitKey::Props,
-        properties(alloc, &[(1, 0), (2, 0)])?,
-    )?;
+        properties(rt, alloc, &[(1, 0), (2, 0)]),
+    );
     table = put_one(
         rt,
         alloc,
         &table,
-        node("a.x")?,
-        live(alloc, &[(A, 0, b"1234"), (A, 0, b"1235")])?,
-    )?;
-    put_version(rt, alloc, &table, node("bb.x")?, 2, UnitValue::Tombstone(5))
+        node(rt, "a.x"),
+        live(rt, alloc, &[(A, 0, b"1234"), (A, 0, b"1235")]),
+    );
+    put_version(
+        rt,
+        alloc,
+        &table,
+        node(rt, "bb.x"),
+        2,
+        UnitValue::Tombstone(5),
+    )
 }
 
 fn number(found: Option<&Unit>) -> u64 {
@@ -42,19 +48,18 @@ fn number(found: Option<&Unit>) -> u64 {
 }
 
 #[test]
-fn an_empty_table(rt: HostRuntime) -> Result<(), Fail> {
-    let empty = Table::empty(rt.alloc())?;
+fn an_empty_table(rt: HostRuntime) {
+    let empty = Table::empty(rt.alloc()).expect(&rt, "memory");
     crosses(&empty);
     empty.facts();
     assert_eq!(rt; (empty.count(), empty.top()), (0, 0));
     assert_eq!(rt; number(empty.next_after(None)), 0);
     assert_eq!(rt; (props_number(&empty), properties_of(&empty).len()), (0, 0));
-    Ok(())
 }
 
 #[test]
-fn units_under_their_keys(rt: HostRuntime) -> Result<(), Fail> {
-    let table = written(&rt, rt.alloc())?;
+fn units_under_their_keys(rt: HostRuntime) {
+    let table = written(&rt, rt.alloc());
     assert_eq!(rt; (table.count(), table.top()), (3, 4));
     assert_eq!(rt; number(table.find(&UnitKey::Props)), 2);
     assert_eq!(rt; number(table.next_after(None)), 2);
@@ -65,45 +70,45 @@ fn units_under_their_keys(rt: HostRuntime) -> Result<(), Fail> {
         ("A.x", 3, 4, 2),
         ("bb.x", 4, 0, 0),
     ] {
-        let key = node(text)?;
+        let key = node(&rt, text);
         assert_eq!(rt; number(table.find(&key)), usn);
         assert_eq!(rt; number(table.next_after(Some(&key))), next);
         assert_eq!(rt; rows_at(&table, &key).len(), rows);
     }
-    let unit = table.find(&node("bb.x")?).ok_or("the unit is there")?;
+    let unit = table
+        .find(&node(&rt, "bb.x"))
+        .expect(&rt, "the unit is there");
     assert!(rt; matches!(unit.value, UnitValue::Tombstone(5)));
     assert_eq!(rt; unit.stamp, stamp(2));
-    Ok(())
 }
 
 #[test]
-fn what_a_table_holds(rt: HostRuntime) -> Result<(), Fail> {
-    let table = written(&rt, rt.alloc())?;
+fn what_a_table_holds(rt: HostRuntime) {
+    let table = written(&rt, rt.alloc());
     assert_eq!(rt; props_number(&table), 2);
     let [first, second] = properties_of(&table) else {
-        return Err("there are two properties")?;
+        panic!(rt; "there are two properties");
     };
     assert_eq!(rt; (first.id, second.id), (1, 2));
     assert_eq!(rt; rows_at(&table, &UnitKey::Props).len(), 0);
-    let [_, last] = rows_at(&table, &node("a.x")?) else {
-        return Err("there are two records")?;
+    let [_, last] = rows_at(&table, &node(&rt, "a.x")) else {
+        panic!(rt; "there are two records");
     };
     assert_eq!(rt; last.rdata.as_slice(), b"1235".as_slice());
     for (value, count) in [
         (UnitValue::Gone, 0),
         (UnitValue::Tombstone(7), 0),
-        (properties(rt.alloc(), &[(1, 0)])?, 0),
-        (live(rt.alloc(), &[(A, 0, b"1234")])?, 1),
+        (properties(&rt, rt.alloc(), &[(1, 0)]), 0),
+        (live(&rt, rt.alloc(), &[(A, 0, b"1234")]), 1),
     ] {
         assert_eq!(rt; rows_in(&value).len(), count);
     }
-    Ok(())
 }
 
 #[test]
-fn tables_that_are_full(rt: HostRuntime) -> Result<(), Fail> {
-    let empty = Table::empty(rt.alloc())?;
-    let one = put_one(&rt, rt.alloc(), &empty, node("a.x")?, UnitValue::Gone)?;
+fn tables_that_are_full(rt: HostRuntime) {
+    let empty = Table::empty(rt.alloc()).expect(&rt, "memory");
+    let one = put_one(&rt, rt.alloc(), &empty, node(&rt, "a.x"), UnitValue::Gone);
     for (writes, full, full_behind_one) in [
         (0, false, false),
         (9_223_372_036_854_775_807, false, false),
@@ -114,7 +119,6 @@ fn tables_that_are_full(rt: HostRuntime) -> Result<(), Fail> {
         assert_eq!(rt; empty.is_full_for(writes), full);
         assert_eq!(rt; one.is_full_for(writes), full_behind_one);
     }
-    Ok(())
 }
 
 /// The numbers of a run's units, and `to`.
@@ -124,42 +128,42 @@ fn numbers(
     table: &Table,
     usn: u64,
     room: usize,
-) -> Result<(Vec<u64>, u64), Fail> {
+) -> (Vec<u64>, u64) {
     assert!(rt; usn <= table.top());
     assert!(rt; room >= 61_000);
-    let run = table.changes_after(usn, room)?;
+    let run = table.changes_after(usn, room).expect(rt, "memory");
     let mut found = Vec::new(alloc);
     for unit in run.units.as_slice() {
-        found.push(unit.usn)?;
+        found.push(unit.usn).expect(rt, "memory");
     }
-    Ok((found, run.to))
+    (found, run.to)
 }
 
 /// A table with two values of 40,000 bytes.
-fn with_large(rt: &impl Abort, alloc: Global) -> Result<Table, Fail> {
-    let large = zeros(alloc, 40_000)?;
-    let mut table = Table::empty(alloc)?;
+fn with_large(rt: &impl Abort, alloc: Global) -> Table {
+    let large = zeros(rt, alloc, 40_000);
+    let mut table = Table::empty(alloc).expect(rt, "memory");
     table = put_one(
         rt,
         alloc,
         &table,
-        node("bb.x")?,
-        live(alloc, &[(TXT, 0, &large)])?,
-    )?;
-    table = put_one(rt, alloc, &table, UnitKey::Props, UnitValue::Gone)?;
+        node(rt, "bb.x"),
+        live(rt, alloc, &[(TXT, 0, &large)]),
+    );
+    table = put_one(rt, alloc, &table, UnitKey::Props, UnitValue::Gone);
     table = put_one(
         rt,
         alloc,
         &table,
-        node("a.x")?,
-        live(alloc, &[(TXT, 0, &large)])?,
-    )?;
-    put_one(rt, alloc, &table, node("x")?, UnitValue::Gone)
+        node(rt, "a.x"),
+        live(rt, alloc, &[(TXT, 0, &large)]),
+    );
+    put_one(rt, alloc, &table, node(rt, "x"), UnitValue::Gone)
 }
 
 #[test]
-fn runs_of_changes(rt: HostRuntime) -> Result<(), Fail> {
-    let table = with_large(&rt, rt.alloc())?;
+fn runs_of_changes(rt: HostRuntime) {
+    let table = with_large(&rt, rt.alloc());
     let all: [u64; 4] = [1, 2, 3, 4];
     for (usn, room, from, end, to) in [
         (0, 61_000, 0, 2, 2),
@@ -168,66 +172,62 @@ fn runs_of_changes(rt: HostRuntime) -> Result<(), Fail> {
         (4, 61_000, 4, 4, 4),
         (0, 81_000, 0, 4, 4),
     ] {
-        let (found, last) = numbers(&rt, rt.alloc(), &table, usn, room)?;
+        let (found, last) = numbers(&rt, rt.alloc(), &table, usn, room);
         assert_eq!(rt; found.as_slice(), &all[from..end]);
         assert_eq!(rt; last, to);
     }
-    Ok(())
 }
 
 #[test]
-fn lengths_of_values(rt: HostRuntime) -> Result<(), Fail> {
+fn lengths_of_values(rt: HostRuntime) {
     let alloc = rt.alloc();
     let values = [
         (UnitValue::Gone, 1),
         (UnitValue::Tombstone(7), 33),
-        (properties(alloc, &[])?, 3),
-        (properties(alloc, &[(1, 0), (2, 0)])?, 61),
-        (live(alloc, &[(A, 0, b"1234")])?, 35),
-        (live(alloc, &[(NS, 0, b"\x03ns1\x01x\0")])?, 40),
-        (live(alloc, &[(A, 0, b"1234"), (SOA, 0, START)])?, 93),
+        (properties(&rt, alloc, &[]), 3),
+        (properties(&rt, alloc, &[(1, 0), (2, 0)]), 61),
+        (live(&rt, alloc, &[(A, 0, b"1234")]), 35),
+        (live(&rt, alloc, &[(NS, 0, b"\x03ns1\x01x\0")]), 40),
+        (live(&rt, alloc, &[(A, 0, b"1234"), (SOA, 0, START)]), 93),
     ];
     for (value, len) in &values {
         assert_eq!(rt; value_len(value), *len);
         assert!(rt; fits(value));
-        assert_eq!(rt; value_len(&value.copy(alloc)?), *len);
+        assert_eq!(rt; value_len(&value.copy(alloc).expect(&rt, "memory")), *len);
     }
     for (len, small) in [(59_969, true), (59_970, false)] {
-        let value = live(alloc, &[(TXT, 0, &zeros(alloc, len)?)])?;
+        let value = live(&rt, alloc, &[(TXT, 0, &zeros(&rt, alloc, len))]);
         assert_eq!(rt; fits(&value), small);
     }
-    Ok(())
 }
 
 #[test]
-fn properties_that_stand(rt: HostRuntime) -> Result<(), Fail> {
+fn properties_that_stand(rt: HostRuntime) {
     let alloc = rt.alloc();
-    let apex = name("x")?;
+    let apex = name(&rt, "x");
     for (first, second, fine) in [(1, 2, true), (2, 1, false), (1, 1, false)] {
-        let value = properties(alloc, &[(first, 0), (second, 0)])?;
+        let value = properties(&rt, alloc, &[(first, 0), (second, 0)]);
         assert_eq!(rt; unit_ok(&apex, &UnitKey::Props, &value), fine);
-        assert!(rt; !unit_ok(&apex, &node("a.x")?, &value));
+        assert!(rt; !unit_ok(&apex, &node(&rt, "a.x"), &value));
     }
-    Ok(())
 }
 
 #[test]
-fn names_that_stand(rt: HostRuntime) -> Result<(), Fail> {
-    let apex = name("x")?;
+fn names_that_stand(rt: HostRuntime) {
+    let apex = name(&rt, "x");
     for (text, fine) in [("a.x", true), ("x", true), ("A.x", false), ("y", false)] {
-        let key = node(text)?;
+        let key = node(&rt, text);
         assert_eq!(rt; unit_ok(&apex, &key, &UnitValue::Gone), fine);
         assert_eq!(rt; unit_ok(&apex, &key, &UnitValue::Tombstone(1)), fine);
     }
     assert!(rt; !unit_ok(&apex, &UnitKey::Props, &UnitValue::Gone));
-    assert!(rt; !unit_ok(&apex, &node("a.x")?, &live(rt.alloc(), &[])?));
-    Ok(())
+    assert!(rt; !unit_ok(&apex, &node(&rt, "a.x"), &live(&rt, rt.alloc(), &[])));
 }
 
 #[test]
-fn records_that_stand(rt: HostRuntime) -> Result<(), Fail> {
+fn records_that_stand(rt: HostRuntime) {
     let alloc = rt.alloc();
-    let apex = name("x")?;
+    let apex = name(&rt, "x");
     for (text, rtype, hour, fine) in [
         ("a.x", A, 5, true),
         ("a.x", 0, 0, false),
@@ -235,16 +235,15 @@ fn records_that_stand(rt: HostRuntime) -> Result<(), Fail> {
         ("x", SOA, 0, true),
         ("x", SOA, 1, false),
     ] {
-        let value = live(alloc, &[(rtype, hour, START)])?;
-        assert_eq!(rt; unit_ok(&apex, &node(text)?, &value), fine);
+        let value = live(&rt, alloc, &[(rtype, hour, START)]);
+        assert_eq!(rt; unit_ok(&apex, &node(&rt, text), &value), fine);
     }
-    Ok(())
 }
 
 #[test]
-fn the_order_of_records_that_stand(rt: HostRuntime) -> Result<(), Fail> {
+fn the_order_of_records_that_stand(rt: HostRuntime) {
     let alloc = rt.alloc();
-    let apex = name("x")?;
+    let apex = name(&rt, "x");
     for (types, first, second, fine) in [
         ((A, A), b"1234".as_slice(), b"1235".as_slice(), true),
         ((A, NS), b"1234".as_slice(), b"\0".as_slice(), true),
@@ -275,29 +274,29 @@ fn the_order_of_records_that_stand(rt: HostRuntime) -> Result<(), Fail> {
             false,
         ),
     ] {
-        let value = live(alloc, &[(types.0, 0, first), (types.1, 0, second)])?;
-        assert_eq!(rt; unit_ok(&apex, &node("x")?, &value), fine);
+        let value = live(&rt, alloc, &[(types.0, 0, first), (types.1, 0, second)]);
+        assert_eq!(rt; unit_ok(&apex, &node(&rt, "x"), &value), fine);
     }
-    Ok(())
 }
 
 #[test]
-fn copies_of_writes_and_units(rt: HostRuntime) -> Result<(), Fail> {
+fn copies_of_writes_and_units(rt: HostRuntime) {
     let alloc = rt.alloc();
     let write = Write {
         key: UnitKey::Props,
         stamp: stamp(3),
         value: UnitValue::Gone,
     };
-    let copy = write.copy(alloc)?;
+    let copy = write.copy(alloc).expect(&rt, "memory");
     assert!(rt; matches!(copy.key, UnitKey::Props));
     assert!(rt; matches!(copy.value, UnitValue::Gone));
     assert_eq!(rt; copy.stamp, stamp(3));
-    let table = written(&rt, alloc)?;
-    let unit = table.find(&node("bb.x")?).ok_or("the unit is there")?;
-    let copy = unit.copy(alloc)?;
+    let table = written(&rt, alloc);
+    let unit = table
+        .find(&node(&rt, "bb.x"))
+        .expect(&rt, "the unit is there");
+    let copy = unit.copy(alloc).expect(&rt, "memory");
     assert!(rt; matches!(copy.key, UnitKey::Node(_)));
     assert!(rt; matches!(copy.value, UnitValue::Tombstone(5)));
     assert_eq!(rt; (copy.usn, copy.stamp), (4, stamp(2)));
-    Ok(())
 }

@@ -10,10 +10,10 @@ use dn_text::{
 use dn_update::Limit;
 use dn_zone::{AdminCmd, AdminDone, Answer};
 use std::alloc::Global;
-use std::test::Fail;
+use std::process::Abort;
 
 #[test]
-fn words_of_lines(rt: HostRuntime) -> Result<(), Fail> {
+fn words_of_lines(rt: HostRuntime) {
     let alloc = rt.alloc();
     for (line, want) in [
         ("", ""),
@@ -24,14 +24,13 @@ fn words_of_lines(rt: HostRuntime) -> Result<(), Fail> {
         ("a\rb\x0cc \"d e\"", "a\rb\x0cc|\"d|e\"|"),
     ] {
         let mut found = List::new(alloc);
-        let words = words_of(alloc, line.as_bytes())?;
+        let words = words_of(alloc, line.as_bytes()).expect(&rt, "memory");
         for word in words {
-            found.extend(word)?;
-            found.push(b'|')?;
+            found.extend(word).expect(&rt, "memory");
+            found.push(b'|').expect(&rt, "memory");
         }
         assert_eq!(rt; found.as_slice(), want.as_bytes(), "of {line:?}");
     }
-    Ok(())
 }
 
 #[test]
@@ -82,14 +81,13 @@ fn numbers_of_words(rt: HostRuntime) {
 }
 
 #[test]
-fn names_of_words(rt: HostRuntime) -> Result<(), Fail> {
-    let name = name_of(b"Ns1.x")?;
+fn names_of_words(rt: HostRuntime) {
+    let name = name_of(b"Ns1.x").expect(&rt, "the word is a name");
     assert!(rt; is_on_wire(&name, b"\x03Ns1\x01x\0"));
     for word in ["", "a..b", "a.\\256"] {
         let error = name_of(word.as_bytes()).err();
         assert_eq!(rt; error, Some(TextError::BadText), "of {word:?}");
     }
-    Ok(())
 }
 
 #[test]
@@ -143,21 +141,20 @@ fn identities_of_replicas(rt: HostRuntime) {
 }
 
 #[test]
-fn parts_of_words(rt: HostRuntime) -> Result<(), Fail> {
+fn parts_of_words(rt: HostRuntime) {
     for (word, before, behind) in [
         ("a.b.c", "a", "b.c"),
         (".a", "", "a"),
         ("a.", "a", ""),
         (".", "", ""),
     ] {
-        let (first, rest) = cut(word.as_bytes(), b'.').ok_or("the word has a dot")?;
+        let (first, rest) = cut(word.as_bytes(), b'.').expect(&rt, "the word has a dot");
         assert_eq!(rt; first, before.as_bytes(), "of {word:?}");
         assert_eq!(rt; rest, behind.as_bytes(), "of {word:?}");
     }
     for word in ["", "a:b"] {
         assert!(rt; cut(word.as_bytes(), b'.').is_none(), "of {word:?}");
     }
-    Ok(())
 }
 
 #[test]
@@ -180,19 +177,18 @@ fn addresses_of_words(rt: HostRuntime) {
 }
 
 #[test]
-fn numbers_behind_what_they_count(rt: HostRuntime) -> Result<(), Fail> {
-    let mut out = list_of(rt.alloc(), b"a ")?;
-    push_number(rt.alloc(), &mut out, 0)?;
-    push_number(rt.alloc(), &mut out, u64::MAX)?;
-    push_count(rt.alloc(), &mut out, b" of ", 120)?;
+fn numbers_behind_what_they_count(rt: HostRuntime) {
+    let mut out = list_of(&rt, rt.alloc(), b"a ");
+    push_number(rt.alloc(), &mut out, 0).expect(&rt, "memory");
+    push_number(rt.alloc(), &mut out, u64::MAX).expect(&rt, "memory");
+    push_count(rt.alloc(), &mut out, b" of ", 120).expect(&rt, "memory");
     let want = b"a 018446744073709551615 of 120".as_slice();
     assert_eq!(rt; out.as_slice(), want);
-    Ok(())
 }
 
 /// Data of each type that has a text, of another type, and names and numbers that are cut short.
 #[test]
-fn lines_of_rows(rt: HostRuntime) -> Result<(), Fail> {
+fn lines_of_rows(rt: HostRuntime) {
     let rows: [(u16, &[u8], &str); 8] = [
         (A, &[192, 0, 2, 10], "W\\032.x 3600 A 192.0.2.10"),
         (A, &[0], "W\\032.x 3600 A 0"),
@@ -207,26 +203,30 @@ fn lines_of_rows(rt: HostRuntime) -> Result<(), Fail> {
         (CNAME, b"\0", "W\\032.x 3600 CNAME ."),
         (TXT, b"\x01a", "W\\032.x 3600 TYPE16 "),
     ];
-    let owner = name("W\\032.x")?;
+    let owner = name(&rt, "W\\032.x");
     for (rtype, rdata, want) in rows {
-        let line = row_line(rt.alloc(), &owner, 3600, rtype, rdata)?;
+        let line = row_line(rt.alloc(), &owner, 3600, rtype, rdata).expect(&rt, "memory");
         assert_eq!(rt; line.as_slice(), want.as_bytes());
     }
-    let root = row_line(rt.alloc(), &name(".")?, u32::MAX, A, &[0])?;
+    let root = row_line(rt.alloc(), &name(&rt, "."), u32::MAX, A, &[0]).expect(&rt, "memory");
     assert_eq!(rt; root.as_slice(), b". 4294967295 A 0".as_slice());
-    Ok(())
 }
 
 /// A command as its last words, an interval with its name, and an addition as `add HOUR` and the line of its row.
-fn shown(alloc: Global, cmd: &AdminCmd) -> Result<List<u8>, Fail> {
+fn shown(rt: &impl Abort, alloc: Global, cmd: &AdminCmd) -> List<u8> {
     let mut out = List::new(alloc);
     match cmd {
-        AdminCmd::AgingOn => out.extend(b"on")?,
-        AdminCmd::AgingOff => out.extend(b"off")?,
+        AdminCmd::AgingOn => out.extend(b"on").expect(rt, "memory"),
+        AdminCmd::AgingOff => out.extend(b"off").expect(rt, "memory"),
         AdminCmd::NoRefresh(hours) => {
-            push_count(alloc, &mut out, b"norefresh ", u64::from(*hours))?;
+            push_count(alloc, &mut out, b"norefresh ", u64::from(*hours)).expect(rt, "memory");
         }
-        AdminCmd::Refresh(hours) => push_count(alloc, &mut out, b"refresh ", u64::from(*hours))?,
+        AdminCmd::Refresh(hours) => push_count(
+            alloc,
+            &mut out,
+            b"refresh ",
+            u64::from(*hours),
+        ).expect(rt, "memory"),
         AdminCmd::Add {
             name,
             ttl,
@@ -234,17 +234,17 @@ fn shown(alloc: Global, cmd: &AdminCmd) -> Result<List<u8>, Fail> {
             rdata,
             hour,
         } => {
-            push_count(alloc, &mut out, b"add ", u64::from(*hour))?;
-            out.extend(b" ")?;
-            let line = row_line(alloc, name, *ttl, *rtype, rdata.as_slice())?;
-            out.extend(line.as_slice())?;
+            push_count(alloc, &mut out, b"add ", u64::from(*hour)).expect(rt, "memory");
+            out.extend(b" ").expect(rt, "memory");
+            let line = row_line(alloc, name, *ttl, *rtype, rdata.as_slice()).expect(rt, "memory");
+            out.extend(line.as_slice()).expect(rt, "memory");
         }
     }
-    Ok(out)
+    out
 }
 
 #[test]
-fn commands_of_words(rt: HostRuntime) -> Result<(), Fail> {
+fn commands_of_words(rt: HostRuntime) {
     let alloc = rt.alloc();
     for (line, want) in [
         ("aging on", "on"),
@@ -259,16 +259,15 @@ fn commands_of_words(rt: HostRuntime) -> Result<(), Fail> {
         ),
         ("add h.x 60 A 10.0.0.1 hour 0", "add 0 h.x 60 A 10.0.0.1"),
     ] {
-        let words = words_of(alloc, line.as_bytes())?;
-        let cmd = command_of(alloc, &words)?;
-        let found = shown(alloc, &cmd)?;
+        let words = words_of(alloc, line.as_bytes()).expect(&rt, "memory");
+        let cmd = command_of(alloc, &words).expect(&rt, "the words are a command");
+        let found = shown(&rt, alloc, &cmd);
         assert_eq!(rt; found.as_slice(), want.as_bytes(), "of {line:?}");
     }
-    Ok(())
 }
 
 #[test]
-fn words_of_no_commands(rt: HostRuntime) -> Result<(), Fail> {
+fn words_of_no_commands(rt: HostRuntime) {
     let alloc = rt.alloc();
     for line in [
         "",
@@ -291,15 +290,14 @@ fn words_of_no_commands(rt: HostRuntime) -> Result<(), Fail> {
         "add h.x 60 A 10.0.0.1 hour 4294967296",
         "add h.x 60 A 10.0.0.1 hour 1 1",
     ] {
-        let words = words_of(alloc, line.as_bytes())?;
+        let words = words_of(alloc, line.as_bytes()).expect(&rt, "memory");
         let error = command_of(alloc, &words).err();
         assert_eq!(rt; error, Some(TextError::BadText), "of {line:?}");
     }
-    Ok(())
 }
 
 #[test]
-fn lines_of_answers(rt: HostRuntime) -> Result<(), Fail> {
+fn lines_of_answers(rt: HostRuntime) {
     let finished = Answer::Finished {
         start: 4,
         end: 7,
@@ -334,8 +332,7 @@ fn lines_of_answers(rt: HostRuntime) -> Result<(), Fail> {
         (Answer::Refused(Limit::Version), "refused version\n"),
         (Answer::Refused(Limit::Changes), "refused changes\n"),
     ] {
-        let line = answer_line(rt.alloc(), answer)?;
+        let line = answer_line(rt.alloc(), answer).expect(&rt, "memory");
         assert_eq!(rt; line.as_slice(), want.as_bytes());
     }
-    Ok(())
 }

@@ -1,5 +1,5 @@
 use crate::fixtures::{LAST_VERSION, OWN, TXT, list_of, live, moment, node, put_version, zeros};
-use dn_io::{List, OutOfMemory};
+use dn_io::List;
 use dn_rdata::{A, AAAA, CNAME, MX, Record};
 use dn_stamp::Stamp;
 use dn_store::{Table, UnitKey, UnitValue, rows_in};
@@ -7,38 +7,38 @@ use dn_text::{push_count, push_number};
 use dn_update::{Limit, Plan, plan_value, with_added};
 use std::alloc::Global;
 use std::process::Abort;
-use std::test::Fail;
 
 /// The records in turn as `TYPE TTL HOUR DATA|`.
-fn shown(alloc: Global, rows: &[Record]) -> Result<List<u8>, OutOfMemory> {
+fn shown(rt: &impl Abort, alloc: Global, rows: &[Record]) -> List<u8> {
     let mut out = List::new(alloc);
     for row in rows {
-        push_number(alloc, &mut out, u64::from(row.rtype))?;
-        push_count(alloc, &mut out, b" ", u64::from(row.ttl))?;
-        push_count(alloc, &mut out, b" ", u64::from(row.hour))?;
-        out.extend(b" ")?;
-        out.extend(row.rdata.as_slice())?;
-        out.extend(b"|")?;
+        push_number(alloc, &mut out, u64::from(row.rtype)).expect(rt, "memory");
+        push_count(alloc, &mut out, b" ", u64::from(row.ttl)).expect(rt, "memory");
+        push_count(alloc, &mut out, b" ", u64::from(row.hour)).expect(rt, "memory");
+        out.extend(b" ").expect(rt, "memory");
+        out.extend(row.rdata.as_slice()).expect(rt, "memory");
+        out.extend(b"|").expect(rt, "memory");
     }
-    Ok(out)
+    out
 }
 
 /// The records of a node after one is added, as text, `same` where they stay the same.
-fn added(alloc: Global, row: Record, rows: &[Record]) -> Result<List<u8>, OutOfMemory> {
-    match with_added(alloc, row, rows)? {
-        Some(after) => shown(alloc, after.as_slice()),
-        None => list_of(alloc, b"same"),
+fn added(rt: &impl Abort, alloc: Global, row: Record, rows: &[Record]) -> List<u8> {
+    match with_added(alloc, row, rows).expect(rt, "memory") {
+        Some(after) => shown(rt, alloc, after.as_slice()),
+        None => list_of(rt, alloc, b"same"),
     }
 }
 
 // The node has two addresses and a text, of hour 7.
 #[test]
-fn records_added_to_a_node(rt: HostRuntime) -> Result<(), Fail> {
+fn records_added_to_a_node(rt: HostRuntime) {
     let alloc = rt.alloc();
     let value = live(
+        &rt,
         alloc,
         &[(A, 7, b"1234"), (A, 7, b"1236"), (TXT, 7, b"\x01n")],
-    )?;
+    );
     for (rtype, ttl, hour, rdata, want) in [
         (A, 300, 7, "1234", "same"),
         (A, 60, 7, "1234", "1 60 7 1234|1 300 7 1236|16 300 7 \x01n|"),
@@ -72,43 +72,41 @@ fn records_added_to_a_node(rt: HostRuntime) -> Result<(), Fail> {
         ),
         (CNAME, 300, 7, "\x01a\0", "same"),
     ] {
-        let row = Record::make(alloc, rtype, ttl, hour, rdata.as_bytes())?;
-        let after = added(alloc, row, rows_in(&value))?;
+        let row = Record::make(alloc, rtype, ttl, hour, rdata.as_bytes()).expect(&rt, "memory");
+        let after = added(&rt, alloc, row, rows_in(&value));
         assert_eq!(rt; after.as_slice(), want.as_bytes(), "of {rdata:?}");
     }
-    Ok(())
 }
 
 // The node is an alias.
 #[test]
-fn records_added_to_an_alias(rt: HostRuntime) -> Result<(), Fail> {
+fn records_added_to_an_alias(rt: HostRuntime) {
     let alloc = rt.alloc();
-    let value = live(alloc, &[(CNAME, 7, b"\x01n\0")])?;
+    let value = live(&rt, alloc, &[(CNAME, 7, b"\x01n\0")]);
     for (rtype, ttl, rdata, want) in [
         (A, 300, "1234", "same"),
         (CNAME, 300, "\x01N\0", "same"),
         (CNAME, 60, "\x01N\0", "5 60 7 \x01N\0|"),
         (CNAME, 300, "\x01m\0", "5 300 7 \x01m\0|"),
     ] {
-        let row = Record::make(alloc, rtype, ttl, 7, rdata.as_bytes())?;
-        let after = added(alloc, row, rows_in(&value))?;
+        let row = Record::make(alloc, rtype, ttl, 7, rdata.as_bytes()).expect(&rt, "memory");
+        let after = added(&rt, alloc, row, rows_in(&value));
         assert_eq!(rt; after.as_slice(), want.as_bytes(), "of {rdata:?}");
     }
-    let first = Record::make(alloc, CNAME, 60, 0, b"\x01n\0")?;
-    let alone = added(alloc, first, &[])?;
+    let first = Record::make(alloc, CNAME, 60, 0, b"\x01n\0").expect(&rt, "memory");
+    let alone = added(&rt, alloc, first, &[]);
     assert_eq!(rt; alone.as_slice(), b"5 60 0 \x01n\0|".as_slice());
-    Ok(())
 }
 
 /// A table of a node at version 7 and another at the last version.
-fn versions(rt: &impl Abort, alloc: Global) -> Result<Table, Fail> {
-    let empty = Table::empty(alloc)?;
-    let one = put_version(rt, alloc, &empty, node("a.x")?, 7, UnitValue::Gone)?;
+fn versions(rt: &impl Abort, alloc: Global) -> Table {
+    let empty = Table::empty(alloc).expect(rt, "memory");
+    let one = put_version(rt, alloc, &empty, node(rt, "a.x"), 7, UnitValue::Gone);
     put_version(
         rt,
         alloc,
         &one,
-        node("last.x")?,
+        node(rt, "last.x"),
         LAST_VERSION,
         UnitValue::Gone,
     )
@@ -116,35 +114,36 @@ fn versions(rt: &impl Abort, alloc: Global) -> Result<Table, Fail> {
 
 /// The stamp under which a value of so many bytes of data is written in second 3600, or the limit that it would pass.
 fn planned(
+    rt: &impl Abort,
     alloc: Global,
     table: &Table,
     key: UnitKey,
     len: usize,
-) -> Result<(Option<Stamp>, Option<Limit>), Fail> {
-    let value = live(alloc, &[(TXT, 0, &zeros(alloc, len)?)])?;
-    let moment = moment(36_000_000_000)?;
-    match plan_value(alloc, table, key, value, moment, OWN)? {
-        Plan::Limit(limit) => Ok((None, Some(limit))),
+) -> (Option<Stamp>, Option<Limit>) {
+    let value = live(rt, alloc, &[(TXT, 0, &zeros(rt, alloc, len))]);
+    let moment = moment(rt, 36_000_000_000);
+    match plan_value(alloc, table, key, value, moment, OWN).expect(rt, "memory") {
+        Plan::Limit(limit) => (None, Some(limit)),
         Plan::Writes(writes) => {
             let [write] = writes.as_slice() else {
-                return Err("there is one write")?;
+                panic!(rt; "there is one write");
             };
             let [row] = rows_in(&write.value) else {
-                return Err("the write has the record")?;
+                panic!(rt; "the write has the record");
             };
             if row.rdata.len() != len {
-                return Err("the record has its data")?;
+                panic!(rt; "the record has its data");
             }
-            Ok((Some(write.stamp), None))
+            (Some(write.stamp), None)
         }
     }
 }
 
 // A record of 59,969 bytes of data makes a value of 60,000.
 #[test]
-fn writes_and_limits(rt: HostRuntime) -> Result<(), Fail> {
+fn writes_and_limits(rt: HostRuntime) {
     let alloc = rt.alloc();
-    let table = versions(&rt, alloc)?;
+    let table = versions(&rt, alloc);
     let stamp = |version| Stamp {
         version,
         seconds: 3600,
@@ -158,8 +157,7 @@ fn writes_and_limits(rt: HostRuntime) -> Result<(), Fail> {
         ("new.x", 59_970, (None, Some(Limit::NodeSize))),
         ("last.x", 59_970, (None, Some(Limit::NodeSize))),
     ] {
-        let found = planned(alloc, &table, node(text)?, len)?;
+        let found = planned(&rt, alloc, &table, node(&rt, text), len);
         assert_eq!(rt; found, want, "at {text}");
     }
-    Ok(())
 }

@@ -9,8 +9,9 @@ use dn_rdata::{
     minimum_of, names_in, number_of_bytes, push_wire, target_of,
 };
 use dn_stamp::{Join, ReplicaId, Stamp, Stamped};
+use std::alloc::Global;
 use std::cmp::Ordering;
-use std::test::Fail;
+use std::process::Abort;
 
 /// What holds without properties.
 const DEFAULTS: ZoneRules = ZoneRules {
@@ -23,37 +24,38 @@ const DEFAULTS: ZoneRules = ZoneRules {
 
 const LATEST: u32 = 4_294_967_295;
 
-fn property(rt: &HostRuntime, id: u32, content: &[u8]) -> Result<Property, Fail> {
-    Ok(Property {
+fn property(rt: &impl Abort, alloc: Global, id: u32, content: &[u8]) -> Property {
+    Property {
         name_length: 1,
         flag: 0,
         id,
-        content: list_of(rt.alloc(), content)?,
-        tail: list_of(rt.alloc(), &[0])?,
-    })
+        content: list_of(rt, alloc, content),
+        tail: list_of(rt, alloc, &[0]),
+    }
 }
 
-fn rules_with(rt: &HostRuntime, list: &[(u32, &[u8])]) -> Result<ZoneRules, Fail> {
-    let mut properties = List::new(rt.alloc());
+fn rules_with(rt: &impl Abort, alloc: Global, list: &[(u32, &[u8])]) -> ZoneRules {
+    let mut properties = List::new(alloc);
     for (id, content) in list {
-        properties.push(property(rt, *id, content)?)?;
+        properties
+            .push(property(rt, alloc, *id, content))
+            .expect(rt, "memory");
     }
-    Ok(rules_of(properties.as_slice()))
+    rules_of(properties.as_slice())
 }
 
 #[test]
-fn a_copy_of_a_property(rt: HostRuntime) -> Result<(), Fail> {
-    let source = property(&rt, 0x10, &[24, 0, 0, 0])?;
-    let copy = source.copy(rt.alloc())?;
+fn a_copy_of_a_property(rt: HostRuntime) {
+    let source = property(&rt, rt.alloc(), 0x10, &[24, 0, 0, 0]);
+    let copy = source.copy(rt.alloc()).expect(&rt, "memory");
     crosses(&copy);
     assert_eq!(rt; (copy.name_length, copy.flag, copy.id), (1, 0, 0x10));
     assert_eq!(rt; copy.content.as_slice(), [24, 0, 0, 0].as_slice());
     assert_eq!(rt; copy.tail.as_slice(), [0].as_slice());
-    Ok(())
 }
 
 #[test]
-fn which_updates_are_taken(rt: HostRuntime) -> Result<(), Fail> {
+fn which_updates_are_taken(rt: HostRuntime) {
     let contents: [(&[u8], u8); 8] = [
         (&[0], 0),
         (&[1], 1),
@@ -65,16 +67,15 @@ fn which_updates_are_taken(rt: HostRuntime) -> Result<(), Fail> {
         (&[], 0),
     ];
     for (content, allow) in contents {
-        let rules = rules_with(&rt, &[(0x02, content)])?;
+        let rules = rules_with(&rt, rt.alloc(), &[(0x02, content)]);
         assert_eq!(rt; rules, ZoneRules { allow, ..DEFAULTS });
     }
-    Ok(())
 }
 
 #[test]
-fn rules_of_aging(rt: HostRuntime) -> Result<(), Fail> {
+fn rules_of_aging(rt: HostRuntime) {
     let none: [(u32, &[u8]); 0] = [];
-    assert_eq!(rt; rules_with(&rt, &none)?, DEFAULTS);
+    assert_eq!(rt; rules_with(&rt, rt.alloc(), &none), DEFAULTS);
     let all: [(u32, &[u8]); 6] = [
         (0x01, &[9, 0, 0, 0]),
         (0x10, &[24, 0, 0, 0]),
@@ -90,15 +91,14 @@ fn rules_of_aging(rt: HostRuntime) -> Result<(), Fail> {
         refresh: 256,
         available: LATEST,
     };
-    assert_eq!(rt; rules_with(&rt, &all)?, rules);
+    assert_eq!(rt; rules_with(&rt, rt.alloc(), &all), rules);
     let short: [(u32, &[u8]); 4] = [
         (0x10, &[24]),
         (0x12, &[]),
         (0x20, &[0, 1, 0, 0, 0]),
         (0x40, &[1]),
     ];
-    assert_eq!(rt; rules_with(&rt, &short)?, DEFAULTS);
-    Ok(())
+    assert_eq!(rt; rules_with(&rt, rt.alloc(), &short), DEFAULTS);
 }
 
 #[test]
@@ -223,10 +223,10 @@ fn what_holds_of_any_join_holds_of_stamped_values(rt: HostRuntime) {
 }
 
 #[test]
-fn a_record_and_its_copy(rt: HostRuntime) -> Result<(), Fail> {
+fn a_record_and_its_copy(rt: HostRuntime) {
     let alloc = rt.alloc();
-    let row = Record::make(alloc, A, 300, 9, b"1234")?;
-    let copy = row.copy(alloc)?;
+    let row = Record::make(alloc, A, 300, 9, b"1234").expect(&rt, "memory");
+    let copy = row.copy(alloc).expect(&rt, "memory");
     for row in [&row, &copy] {
         assert_eq!(rt;
             (row.rtype, row.rank, row.flags, row.serial),
@@ -235,7 +235,6 @@ fn a_record_and_its_copy(rt: HostRuntime) -> Result<(), Fail> {
         assert_eq!(rt; (row.ttl, row.reserved, row.hour), (300, 0, 9));
         assert_eq!(rt; row.rdata.as_slice(), b"1234".as_slice());
     }
-    Ok(())
 }
 
 #[test]
@@ -271,7 +270,7 @@ fn types_and_the_names_in_their_data(rt: HostRuntime) {
 
 /// Each record stands before the next. Letters in names count in lower case, other bytes as they are.
 #[test]
-fn the_order_of_records(rt: HostRuntime) -> Result<(), Fail> {
+fn the_order_of_records(rt: HostRuntime) {
     let alloc = rt.alloc();
     let mut rows = List::new(alloc);
     let data: [(u16, &[u8]); 8] = [
@@ -285,7 +284,8 @@ fn the_order_of_records(rt: HostRuntime) -> Result<(), Fail> {
         (MX, b"\0n\x01b\0"),
     ];
     for (rtype, rdata) in data {
-        rows.push(Record::make(alloc, rtype, 300, 0, rdata)?)?;
+        rows.push(Record::make(alloc, rtype, 300, 0, rdata).expect(&rt, "memory"))
+            .expect(&rt, "memory");
     }
     for (place, left) in rows.as_slice().iter().enumerate() {
         for (other, right) in rows.as_slice().iter().enumerate() {
@@ -296,14 +296,13 @@ fn the_order_of_records(rt: HostRuntime) -> Result<(), Fail> {
             );
         }
     }
-    let lower = Record::make(alloc, NS, 300, 0, b"\x01n\0")?;
-    let upper = Record::make(alloc, NS, 60, 7, b"\x01N\0")?;
+    let lower = Record::make(alloc, NS, 300, 0, b"\x01n\0").expect(&rt, "memory");
+    let upper = Record::make(alloc, NS, 60, 7, b"\x01N\0").expect(&rt, "memory");
     assert_eq!(rt; compare_rows(&lower, &upper), Ordering::Equal);
-    Ok(())
 }
 
 #[test]
-fn names_that_data_leads_to(rt: HostRuntime) -> Result<(), Fail> {
+fn names_that_data_leads_to(rt: HostRuntime) {
     let data: [(u16, &[u8], &str); 8] = [
         (NS, b"\x02ns\x01x\0", "ns.x"),
         (CNAME, b"\x01A\x01x\0", "a.x"),
@@ -315,14 +314,13 @@ fn names_that_data_leads_to(rt: HostRuntime) -> Result<(), Fail> {
         (MX, b"\0", "none"),
     ];
     for (rtype, rdata, want) in data {
-        let row = Record::make(rt.alloc(), rtype, 300, 0, rdata)?;
+        let row = Record::make(rt.alloc(), rtype, 300, 0, rdata).expect(&rt, "memory");
         let same = match target_of(&row) {
-            Some(found) => found.same(&name(want)?),
+            Some(found) => found.same(&name(&rt, want)),
             None => want == "none",
         };
         assert!(rt; same, "of {want}");
     }
-    Ok(())
 }
 
 #[test]
@@ -341,9 +339,8 @@ fn numbers_of_bytes(rt: HostRuntime) {
 }
 
 #[test]
-fn a_name_behind_other_bytes(rt: HostRuntime) -> Result<(), Fail> {
-    let mut out = list_of(rt.alloc(), b"ab")?;
-    push_wire(&mut out, &name_on_wire(b"\x02Ns\x01x\0")?)?;
+fn a_name_behind_other_bytes(rt: HostRuntime) {
+    let mut out = list_of(&rt, rt.alloc(), b"ab");
+    push_wire(&mut out, &name_on_wire(&rt, b"\x02Ns\x01x\0")).expect(&rt, "memory");
     assert_eq!(rt; out.as_slice(), b"ab\x02Ns\x01x\0".as_slice());
-    Ok(())
 }

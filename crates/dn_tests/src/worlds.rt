@@ -8,7 +8,6 @@ use dn_world::{World, WorldAnswer, WorldEvent, WorldNo};
 use dn_zone::{Answer, Event};
 use std::alloc::Global;
 use std::process::Abort;
-use std::test::Fail;
 
 fn replica(number: u8, host: &Name) -> WorldEvent {
     WorldEvent::Replica {
@@ -52,11 +51,11 @@ fn deliver(packet: u32) -> WorldEvent {
 }
 
 #[test]
-fn replicas_and_zones(rt: HostRuntime) -> Result<(), Fail> {
+fn replicas_and_zones(rt: HostRuntime) {
     let alloc = rt.alloc();
     let mut world = World::new(alloc);
     crosses(&world);
-    let (x, capital, y) = (name("x")?, name("X")?, name("y")?);
+    let (x, capital, y) = (name(&rt, "x"), name(&rt, "X"), name(&rt, "y"));
     for (event, want) in [
         (create(0, &x), WorldAnswer::No(WorldNo::NoReplica)),
         (join(0, &x), WorldAnswer::No(WorldNo::NoReplica)),
@@ -71,7 +70,7 @@ fn replicas_and_zones(rt: HostRuntime) -> Result<(), Fail> {
         (create(0, &y), WorldAnswer::No(WorldNo::ZoneThere)),
         (step(0, &x), WorldAnswer::Zone(Answer::Idle)),
     ] {
-        assert_eq!(rt; world.step(alloc, &event)?, want);
+        assert_eq!(rt; world.step(alloc, &event).expect(&rt, "memory"), want);
     }
     for (at, apex, count) in [
         (0, "X", Some(2)),
@@ -79,17 +78,16 @@ fn replicas_and_zones(rt: HostRuntime) -> Result<(), Fail> {
         (0, "z", None),
         (1, "x", None),
     ] {
-        let found = world.zone(at, &name(apex)?);
+        let found = world.zone(at, &name(&rt, apex));
         assert_eq!(rt; found.map(|zone| zone.table().count()), count);
     }
-    Ok(())
 }
 
 #[test]
-fn packets_between_replicas(rt: HostRuntime) -> Result<(), Fail> {
+fn packets_between_replicas(rt: HostRuntime) {
     let alloc = rt.alloc();
     let mut world = World::new(alloc);
-    let x = name("x")?;
+    let x = name(&rt, "x");
     for (event, want) in [
         (deliver(0), WorldAnswer::No(WorldNo::NoPacket)),
         (deliver(1), WorldAnswer::No(WorldNo::NoPacket)),
@@ -108,25 +106,30 @@ fn packets_between_replicas(rt: HostRuntime) -> Result<(), Fail> {
         (deliver(2), WorldAnswer::Zone(Answer::Merged { won: 2 })),
         (deliver(2), WorldAnswer::Zone(Answer::Merged { won: 0 })),
     ] {
-        assert_eq!(rt; world.step(alloc, &event)?, want);
+        assert_eq!(rt; world.step(alloc, &event).expect(&rt, "memory"), want);
     }
-    Ok(())
 }
 
 // Another identity is tested before the number of replicas, and another zone before the number of zones.
 #[test]
-fn a_world_has_64_replicas_of_16_zones(rt: HostRuntime) -> Result<(), Fail> {
+fn a_world_has_64_replicas_of_16_zones(rt: HostRuntime) {
     let alloc = rt.alloc();
     let mut world = World::new(alloc);
-    let (x, last, another) = (name("x")?, name("z15")?, name("z16")?);
+    let (x, last, another) = (name(&rt, "x"), name(&rt, "z15"), name(&rt, "z16"));
     for number in 0..64 {
         let event = replica(number, &x);
-        assert_eq!(rt; world.step(alloc, &event)?, WorldAnswer::Made);
+        assert_eq!(rt;
+            world.step(alloc, &event).expect(&rt, "memory"),
+            WorldAnswer::Made
+        );
     }
     for number in 0..16 {
-        let apex = format!(in alloc; "z{number}")?;
-        let event = create(63, &name(apex.as_str())?);
-        assert_eq!(rt; world.step(alloc, &event)?, WorldAnswer::Made);
+        let apex = format!(in alloc; "z{number}").expect(&rt, "memory");
+        let event = create(63, &name(&rt, apex.as_str()));
+        assert_eq!(rt;
+            world.step(alloc, &event).expect(&rt, "memory"),
+            WorldAnswer::Made
+        );
     }
     for (event, want) in [
         (replica(64, &x), WorldNo::Full),
@@ -135,34 +138,44 @@ fn a_world_has_64_replicas_of_16_zones(rt: HostRuntime) -> Result<(), Fail> {
         (join(63, &another), WorldNo::Full),
         (join(63, &last), WorldNo::ZoneThere),
     ] {
-        assert_eq!(rt; world.step(alloc, &event)?, WorldAnswer::No(want));
+        assert_eq!(rt;
+            world.step(alloc, &event).expect(&rt, "memory"),
+            WorldAnswer::No(want)
+        );
     }
     assert_eq!(rt;
-        world.step(alloc, &create(62, &another))?,
+        world
+            .step(alloc, &create(62, &another))
+            .expect(&rt, "memory"),
         WorldAnswer::Made
     );
-    Ok(())
 }
 
 /// The world of two replicas, the first of which has zones in one another and one beside them.
-fn nested(rt: &impl Abort, alloc: Global) -> Result<World, Fail> {
+fn nested(rt: &impl Abort, alloc: Global) -> World {
     let mut world = World::new(alloc);
-    let x = name("x")?;
+    let x = name(rt, "x");
     for event in [replica(1, &x), replica(2, &x)] {
-        assert_eq!(rt; world.step(alloc, &event)?, WorldAnswer::Made);
+        assert_eq!(rt;
+            world.step(alloc, &event).expect(rt, "memory"),
+            WorldAnswer::Made
+        );
     }
     for text in ["a.X", "x", "b.a.x", "y"] {
-        let event = create(0, &name(text)?);
-        assert_eq!(rt; world.step(alloc, &event)?, WorldAnswer::Made);
+        let event = create(0, &name(rt, text));
+        assert_eq!(rt;
+            world.step(alloc, &event).expect(rt, "memory"),
+            WorldAnswer::Made
+        );
     }
-    Ok(world)
+    world
 }
 
 // The SOA beside a negative answer is that of the zone that answers.
 #[test]
-fn the_nearest_zone_answers(rt: HostRuntime) -> Result<(), Fail> {
+fn the_nearest_zone_answers(rt: HostRuntime) {
     let alloc = rt.alloc();
-    let world = nested(&rt, alloc)?;
+    let world = nested(&rt, alloc);
     for (at, asked, rcode, apex) in [
         (0, "www.A.x", Rcode::NxDomain, "\x01a\x01x\0"),
         (0, "x", Rcode::NoError, "\x01x\0"),
@@ -172,14 +185,19 @@ fn the_nearest_zone_answers(rt: HostRuntime) -> Result<(), Fail> {
         (1, "x", Rcode::Refused, ""),
     ] {
         let reply = world
-            .reply(alloc, at, &name(asked)?, A)?
-            .ok_or("the replica is there")?;
+            .reply(alloc, at, &name(&rt, asked), A)
+            .expect(&rt, "memory")
+            .expect(&rt, "the replica is there");
         assert_eq!(rt; reply.rcode, rcode, "of {asked}");
         match reply.authority.get(0) {
             Some(row) => assert!(rt; is_on_wire(&row.name, apex.as_bytes()), "of {asked}"),
             None => assert_eq!(rt; apex, "", "of {asked}"),
         }
     }
-    assert!(rt; world.reply(alloc, 2, &name("x")?, A)?.is_none());
-    Ok(())
+    assert!(rt;
+        world
+            .reply(alloc, 2, &name(&rt, "x"), A)
+            .expect(&rt, "memory")
+            .is_none()
+    );
 }

@@ -13,24 +13,23 @@ use dn_update::Limit;
 use dn_zone::{AdminCmd, AdminDone, Answer, Cursors, Event, Prepared, Zone, changes_of};
 use std::alloc::Global;
 use std::process::Abort;
-use std::test::Fail;
 
 const SUPPLIER: ReplicaId = ReplicaId([2; 16]);
 
 /// The zone X. of the replica ns1.x, made at hour 1000.
-fn created(alloc: Global, id: ReplicaId) -> Result<Zone, Fail> {
-    let (host, apex, mailbox) = (name("ns1.x")?, name("X")?, name("admin.x")?);
-    Ok(Zone::create(alloc, id, host, apex, mailbox, moment(EARLY)?)?)
+fn created(rt: &impl Abort, alloc: Global, id: ReplicaId) -> Zone {
+    let (host, apex, mailbox) = (name(rt, "ns1.x"), name(rt, "X"), name(rt, "admin.x"));
+    Zone::create(alloc, id, host, apex, mailbox, moment(rt, EARLY)).expect(rt, "memory")
 }
 
 /// The zone X. on the replica ns2.x, which has nothing of it yet.
-fn joined(alloc: Global, id: ReplicaId) -> Result<Zone, Fail> {
-    Ok(Zone::join(alloc, id, name("ns2.x")?, name("X")?)?)
+fn joined(rt: &impl Abort, alloc: Global, id: ReplicaId) -> Zone {
+    Zone::join(alloc, id, name(rt, "ns2.x"), name(rt, "X")).expect(rt, "memory")
 }
 
 #[test]
-fn a_new_zone(rt: HostRuntime) -> Result<(), Fail> {
-    let zone = created(rt.alloc(), OWN)?;
+fn a_new_zone(rt: HostRuntime) {
+    let zone = created(&rt, rt.alloc(), OWN);
     crosses(&zone);
     assert!(rt; is_on_wire(zone.apex(), b"\x01x\0"));
     assert!(rt; is_on_wire(zone.host(), b"\x03ns1\x01x\0"));
@@ -49,19 +48,20 @@ fn a_new_zone(rt: HostRuntime) -> Result<(), Fail> {
         available: 0,
     };
     assert_eq!(rt; rules_of(properties_of(table)), rules);
-    let unit = table.find(&node("x")?).ok_or("the apex has records")?;
+    let unit = table
+        .find(&node(&rt, "x"))
+        .expect(&rt, "the apex has records");
     let stamp = Stamp {
         version: 1,
         seconds: 3_600_000,
         id: OWN,
     };
     assert_eq!(rt; (unit.usn, unit.stamp), (2, stamp));
-    Ok(())
 }
 
 #[test]
-fn properties_of_a_new_zone(rt: HostRuntime) -> Result<(), Fail> {
-    let zone = created(rt.alloc(), OWN)?;
+fn properties_of_a_new_zone(rt: HostRuntime) {
+    let zone = created(&rt, rt.alloc(), OWN);
     let list = properties_of(zone.table());
     let wanted: [(u32, &[u8]); 6] = [
         (0x01, &[1, 0, 0, 0]),
@@ -77,13 +77,12 @@ fn properties_of_a_new_zone(rt: HostRuntime) -> Result<(), Fail> {
         assert_eq!(rt; item.content.as_slice(), *content);
         assert_eq!(rt; item.tail.as_slice(), [0].as_slice());
     }
-    Ok(())
 }
 
 #[test]
-fn records_of_a_new_zone(rt: HostRuntime) -> Result<(), Fail> {
-    let zone = created(rt.alloc(), OWN)?;
-    let rows = rows_at(zone.table(), &node("x")?);
+fn records_of_a_new_zone(rt: HostRuntime) {
+    let zone = created(&rt, rt.alloc(), OWN);
+    let rows = rows_at(zone.table(), &node(&rt, "x"));
     let wanted: [(u16, &[u8]); 2] = [
         (2, b"\x03ns1\x01x\0"),
         (
@@ -96,32 +95,30 @@ fn records_of_a_new_zone(rt: HostRuntime) -> Result<(), Fail> {
         assert_eq!(rt; (row.rtype, row.ttl, row.hour), (*rtype, 3600, 0));
         assert_eq!(rt; row.rdata.as_slice(), *rdata);
     }
-    Ok(())
 }
 
 #[test]
-fn a_zone_that_is_to_be_copied(rt: HostRuntime) -> Result<(), Fail> {
-    let zone = joined(rt.alloc(), OWN)?;
+fn a_zone_that_is_to_be_copied(rt: HostRuntime) {
+    let zone = joined(&rt, rt.alloc(), OWN);
     assert!(rt; is_on_wire(zone.apex(), b"\x01x\0"));
     assert!(rt; is_on_wire(zone.host(), b"\x03ns2\x01x\0"));
     assert_eq!(rt; (zone.id(), zone.cursor(&SUPPLIER)), (OWN, 0));
     assert_eq!(rt; (zone.table().top(), zone.table().count()), (0, 0));
     assert!(rt; zone.pass().is_none());
-    Ok(())
 }
 
 /// A command at the moment, which adds an address at a name.
-fn add(alloc: Global, text: &str, rdata: &[u8]) -> Result<Event, Fail> {
-    Ok(Event::Admin {
+fn add(rt: &impl Abort, alloc: Global, text: &str, rdata: &[u8]) -> Event {
+    Event::Admin {
         cmd: AdminCmd::Add {
-            name: name(text)?,
+            name: name(rt, text),
             ttl: 300,
             rtype: A,
-            rdata: list_of(alloc, rdata)?,
+            rdata: list_of(rt, alloc, rdata),
             hour: 0,
         },
-        moment: moment(EARLY)?,
-    })
+        moment: moment(rt, EARLY),
+    }
 }
 
 /// A command at the moment.
@@ -130,17 +127,17 @@ fn set(cmd: AdminCmd, moment: Moment) -> Event {
 }
 
 #[test]
-fn commands_at_a_zone(rt: HostRuntime) -> Result<(), Fail> {
+fn commands_at_a_zone(rt: HostRuntime) {
     let alloc = rt.alloc();
-    let mut zone = created(alloc, OWN)?;
+    let mut zone = created(&rt, alloc, OWN);
     let written = Answer::Admin(AdminDone::Written { units: 1 });
     let unchanged = Answer::Admin(AdminDone::Unchanged);
-    let early = moment(EARLY)?;
-    let outside = add(alloc, "h.y", b"1234")?;
-    let large = add(alloc, "h.x", &zeros(alloc, 60_000)?)?;
+    let early = moment(&rt, EARLY);
+    let outside = add(&rt, alloc, "h.y", b"1234");
+    let large = add(&rt, alloc, "h.x", &zeros(&rt, alloc, 60_000));
     for (event, want, top) in [
-        (add(alloc, "H.x", b"1234")?, written, 3),
-        (add(alloc, "h.X", b"1234")?, unchanged, 3),
+        (add(&rt, alloc, "H.x", b"1234"), written, 3),
+        (add(&rt, alloc, "h.X", b"1234"), unchanged, 3),
         (outside, Answer::Admin(AdminDone::NotInZone), 3),
         (large, Answer::Refused(Limit::NodeSize), 3),
         (set(AdminCmd::AgingOff, early), unchanged, 3),
@@ -150,7 +147,7 @@ fn commands_at_a_zone(rt: HostRuntime) -> Result<(), Fail> {
         (set(AdminCmd::Refresh(168), early), unchanged, 5),
         (set(AdminCmd::Refresh(48), early), written, 6),
     ] {
-        assert_eq!(rt; zone.act(alloc, &event)?, want);
+        assert_eq!(rt; zone.act(alloc, &event).expect(&rt, "memory"), want);
         assert_eq!(rt; zone.table().top(), top);
     }
     let rules = ZoneRules {
@@ -161,31 +158,29 @@ fn commands_at_a_zone(rt: HostRuntime) -> Result<(), Fail> {
         available: 1168,
     };
     assert_eq!(rt; rules_of(properties_of(zone.table())), rules);
-    Ok(())
 }
 
 #[test]
-fn what_is_prepared_waits(rt: HostRuntime) -> Result<(), Fail> {
+fn what_is_prepared_waits(rt: HostRuntime) {
     let alloc = rt.alloc();
-    let mut zone = created(alloc, OWN)?;
-    let event = add(alloc, "h.x", b"1234")?;
-    let made = zone.prepare(alloc, &event)?;
+    let mut zone = created(&rt, alloc, OWN);
+    let event = add(&rt, alloc, "h.x", b"1234");
+    let made = zone.prepare(alloc, &event).expect(&rt, "memory");
     assert_eq!(rt; (zone.table().top(), zone.table().count()), (2, 2));
     let written = Answer::Admin(AdminDone::Written { units: 1 });
     assert_eq!(rt; zone.commit(made), written);
     assert_eq!(rt; (zone.table().top(), zone.table().count()), (3, 3));
-    let made = zone.prepare(alloc, &event)?;
+    let made = zone.prepare(alloc, &event).expect(&rt, "memory");
     assert!(rt; matches!(made, Prepared::Same(_)));
     assert_eq!(rt; zone.commit(made), Answer::Admin(AdminDone::Unchanged));
     assert_eq!(rt; (zone.table().top(), zone.table().count()), (3, 3));
-    Ok(())
 }
 
 #[test]
-fn steps_of_a_pass(rt: HostRuntime) -> Result<(), Fail> {
+fn steps_of_a_pass(rt: HostRuntime) {
     let alloc = rt.alloc();
-    let mut zone = created(alloc, OWN)?;
-    let (early, later) = (moment(EARLY)?, moment(LATE)?);
+    let mut zone = created(&rt, alloc, OWN);
+    let (early, later) = (moment(&rt, EARLY), moment(&rt, LATE));
     let written = Answer::Admin(AdminDone::Written { units: 1 });
     let finished = Answer::Finished {
         start: 3,
@@ -217,10 +212,9 @@ fn steps_of_a_pass(rt: HostRuntime) -> Result<(), Fail> {
         ),
         (Event::Step { most: 1 }, Answer::Idle, false),
     ] {
-        assert_eq!(rt; zone.act(alloc, &event)?, want);
+        assert_eq!(rt; zone.act(alloc, &event).expect(&rt, "memory"), want);
         assert_eq!(rt; zone.pass().is_some(), runs);
     }
-    Ok(())
 }
 
 /// Changes of the supplier without units.
@@ -235,9 +229,9 @@ fn no_units(alloc: Global, zone: &Name, from: u64, to: u64) -> Changes {
 }
 
 #[test]
-fn changes_behind_a_gap_wait(rt: HostRuntime) -> Result<(), Fail> {
+fn changes_behind_a_gap_wait(rt: HostRuntime) {
     let alloc = rt.alloc();
-    let mut zone = joined(alloc, OWN)?;
+    let mut zone = joined(&rt, alloc, OWN);
     let merged = Answer::Merged { won: 0 };
     let early = Answer::Gap {
         cursor: 20,
@@ -256,39 +250,40 @@ fn changes_behind_a_gap_wait(rt: HostRuntime) -> Result<(), Fail> {
         (81, 90, late, 80),
     ] {
         let changes = no_units(alloc, zone.apex(), from, to);
-        let made = zone.merge(alloc, &changes)?;
+        let made = zone.merge(alloc, &changes).expect(&rt, "memory");
         assert_eq!(rt; zone.commit(made), want, "of {from}");
         assert_eq!(rt; zone.cursor(&SUPPLIER), cursor, "of {from}");
         assert_eq!(rt; zone.cursor(&OWN), 0, "of {from}");
     }
-    Ok(())
 }
 
 /// The changes in a packet.
-fn sent(packet: Packet) -> Result<Changes, Fail> {
+fn sent(rt: &impl Abort, packet: Packet) -> Changes {
     match packet {
-        Packet::Changes(changes) => Ok(changes),
-        Packet::Pull { .. } => Err("the packet has changes")?,
+        Packet::Changes(changes) => changes,
+        Packet::Pull { .. } => panic!(rt; "the packet has changes"),
     }
 }
 
 #[test]
-fn changes_of_a_zone(rt: HostRuntime) -> Result<(), Fail> {
+fn changes_of_a_zone(rt: HostRuntime) {
     let alloc = rt.alloc();
-    let zone = created(alloc, SUPPLIER)?;
+    let zone = created(&rt, alloc, SUPPLIER);
     for (after, from, units) in [(0, 0, 2), (1, 1, 1), (2, 2, 0), (7, 2, 0)] {
-        let changes = sent(changes_of(alloc, zone.table(), zone.apex(), zone.id(), after)?)?;
+        let changes = sent(
+            &rt,
+            changes_of(alloc, zone.table(), zone.apex(), zone.id(), after).expect(&rt, "memory"),
+        );
         assert!(rt; is_on_wire(&changes.zone, b"\x01x\0"));
         assert_eq!(rt; changes.supplier, SUPPLIER);
         assert_eq!(rt; (changes.from, changes.to), (from, 2), "of {after}");
         assert_eq!(rt; changes.units.len(), units, "of {after}");
     }
     assert_eq!(rt; CHANGES_ROOM, 64_000);
-    Ok(())
 }
 
 /// Up to where a zone says that it has a supplier's changes.
-fn asked(rt: &impl Abort, zone: &Zone, supplier: &ReplicaId) -> Result<u64, Fail> {
+fn asked(rt: &impl Abort, zone: &Zone, supplier: &ReplicaId) -> u64 {
     match zone.pull(supplier) {
         Packet::Pull {
             zone: apex,
@@ -297,73 +292,87 @@ fn asked(rt: &impl Abort, zone: &Zone, supplier: &ReplicaId) -> Result<u64, Fail
         } => {
             assert!(rt; is_on_wire(&apex, b"\x01x\0"));
             assert_eq!(rt; from_id, zone.id());
-            Ok(after)
+            after
         }
-        Packet::Changes(_) => Err("the packet asks")?,
+        Packet::Changes(_) => panic!(rt; "the packet asks"),
     }
 }
 
 #[test]
-fn copies_of_a_zone(rt: HostRuntime) -> Result<(), Fail> {
+fn copies_of_a_zone(rt: HostRuntime) {
     let alloc = rt.alloc();
-    let mut supplier = created(alloc, SUPPLIER)?;
-    let mut zone = joined(alloc, OWN)?;
+    let mut supplier = created(&rt, alloc, SUPPLIER);
+    let mut zone = joined(&rt, alloc, OWN);
     for (won, after, count) in [(2, 2, 2), (0, 2, 2)] {
-        let asked_after = asked(&rt, &zone, &SUPPLIER)?;
+        let asked_after = asked(&rt, &zone, &SUPPLIER);
         let packet = changes_of(
             alloc,
             supplier.table(),
             supplier.apex(),
             SUPPLIER,
             asked_after,
-        )?;
+        )
+        .expect(&rt, "memory");
         let event = Event::Merge {
-            changes: sent(packet)?,
+            changes: sent(&rt, packet),
         };
-        assert_eq!(rt; zone.act(alloc, &event)?, Answer::Merged { won });
-        assert_eq!(rt; asked(&rt, &zone, &SUPPLIER)?, after);
+        assert_eq!(rt;
+            zone.act(alloc, &event).expect(&rt, "memory"),
+            Answer::Merged { won }
+        );
+        assert_eq!(rt; asked(&rt, &zone, &SUPPLIER), after);
         assert_eq!(rt; zone.table().count(), count);
     }
     assert_eq!(rt;
-        supplier.act(alloc, &add(alloc, "h.x", b"1234")?)?,
+        supplier
+            .act(alloc, &add(&rt, alloc, "h.x", b"1234"))
+            .expect(&rt, "memory"),
         Answer::Admin(AdminDone::Written { units: 1 })
     );
-    let whole = sent(changes_of(alloc, supplier.table(), supplier.apex(), SUPPLIER, 0)?)?;
+    let whole = sent(
+        &rt,
+        changes_of(alloc, supplier.table(), supplier.apex(), SUPPLIER, 0).expect(&rt, "memory"),
+    );
     let event = Event::Merge { changes: whole };
-    assert_eq!(rt; zone.act(alloc, &event)?, Answer::Merged { won: 1 });
-    assert_eq!(rt; asked(&rt, &zone, &SUPPLIER)?, 3);
-    assert_eq!(rt; rows_at(zone.table(), &node("h.x")?).len(), 1);
-    Ok(())
+    assert_eq!(rt;
+        zone.act(alloc, &event).expect(&rt, "memory"),
+        Answer::Merged { won: 1 }
+    );
+    assert_eq!(rt; asked(&rt, &zone, &SUPPLIER), 3);
+    assert_eq!(rt; rows_at(zone.table(), &node(&rt, "h.x")).len(), 1);
 }
 
 #[test]
-fn a_unit_at_its_last_version_stays(rt: HostRuntime) -> Result<(), Fail> {
+fn a_unit_at_its_last_version_stays(rt: HostRuntime) {
     let alloc = rt.alloc();
-    let mut zone = created(alloc, OWN)?;
-    let value = live(alloc, &[(TXT, 0, b"\x01n")])?;
-    let empty = Table::empty(alloc)?;
-    let last = put_version(&rt, alloc, &empty, node("h.x")?, LAST_VERSION, value)?;
-    let packet = changes_of(alloc, &last, zone.apex(), SUPPLIER, 0)?;
+    let mut zone = created(&rt, alloc, OWN);
+    let value = live(&rt, alloc, &[(TXT, 0, b"\x01n")]);
+    let empty = Table::empty(alloc).expect(&rt, "memory");
+    let last = put_version(&rt, alloc, &empty, node(&rt, "h.x"), LAST_VERSION, value);
+    let packet = changes_of(alloc, &last, zone.apex(), SUPPLIER, 0).expect(&rt, "memory");
     let event = Event::Merge {
-        changes: sent(packet)?,
+        changes: sent(&rt, packet),
     };
-    assert_eq!(rt; zone.act(alloc, &event)?, Answer::Merged { won: 1 });
     assert_eq!(rt;
-        zone.act(alloc, &add(alloc, "h.x", b"1234")?)?,
+        zone.act(alloc, &event).expect(&rt, "memory"),
+        Answer::Merged { won: 1 }
+    );
+    assert_eq!(rt;
+        zone.act(alloc, &add(&rt, alloc, "h.x", b"1234"))
+            .expect(&rt, "memory"),
         Answer::Refused(Limit::Version)
     );
-    assert_eq!(rt; rows_at(zone.table(), &node("h.x")?).len(), 1);
-    Ok(())
+    assert_eq!(rt; rows_at(zone.table(), &node(&rt, "h.x")).len(), 1);
 }
 
 #[test]
-fn cursors_of_suppliers(rt: HostRuntime) -> Result<(), Fail> {
+fn cursors_of_suppliers(rt: HostRuntime) {
     let alloc = rt.alloc();
     let none = Cursors::new(alloc);
-    let one = none.with(alloc, SUPPLIER, 7)?;
-    let two = one.with(alloc, OWN, 9)?;
-    let moved = two.with(alloc, SUPPLIER, 8)?;
-    let copy = moved.copy(alloc)?;
+    let one = none.with(alloc, SUPPLIER, 7).expect(&rt, "memory");
+    let two = one.with(alloc, OWN, 9).expect(&rt, "memory");
+    let moved = two.with(alloc, SUPPLIER, 8).expect(&rt, "memory");
+    let copy = moved.copy(alloc).expect(&rt, "memory");
     for (cursors, supplier, own) in [
         (&none, 0, 0),
         (&one, 7, 0),
@@ -374,5 +383,4 @@ fn cursors_of_suppliers(rt: HostRuntime) -> Result<(), Fail> {
         assert_eq!(rt; cursors.of(SUPPLIER), supplier);
         assert_eq!(rt; cursors.of(OWN), own);
     }
-    Ok(())
 }
