@@ -1,4 +1,4 @@
-use crate::fixtures::{crosses, list_of};
+use crate::fixtures::{check_bytes, crosses, list_of, moment};
 use dn_io::{
     Addr, Duplicate, Failed, Line, LineBuf, LineError, List, MemSink, MemSource, Moment, Sink,
     Source, Status, StdSink, StdSource, SureSink, SureSource, read_line, write_all,
@@ -33,109 +33,118 @@ fn shown<S: Source>(rt: &impl Abort, alloc: Global, source: &mut S) -> List<u8> 
     shown
 }
 
+/// What four reads of a line of a source answer.
+fn check_lines<S: Source>(rt: &impl Abort, alloc: Global, source: &mut S, want: &str) {
+    let found = shown(rt, alloc, source);
+    check_bytes(rt, found.as_slice(), want.as_bytes(), want);
+}
+
+/// An input in memory, one that never fails, and one of std have the same lines.
+fn check_input(rt: &impl Abort, alloc: Global, input: &str, want: &str) {
+    let bytes = list_of(rt, alloc, input.as_bytes());
+    check_lines(rt, alloc, &mut MemSource::of(bytes, List::new(alloc)), want);
+    let bytes = list_of(rt, alloc, input.as_bytes());
+    check_lines(rt, alloc, &mut SureSource::of(bytes), want);
+    check_lines(rt, alloc, &mut StdSource::of(input.as_bytes()), want);
+}
+
 #[test]
 fn lines_of_an_input(rt: HostRuntime) {
-    let alloc = rt.alloc();
-    let cases = [
+    for (input, want) in [
         ("", "...."),
         ("a", "a|..."),
         ("a\r\nb\n", "a|b|.."),
         ("a\n\nb\r", "a||b\r|."),
         ("\r\n\r\r\n\n", "|\r||."),
         ("a\rb\n\r", "a\rb|\r|.."),
-    ];
-    for (input, want) in cases {
-        let bytes = list_of(&rt, alloc, input.as_bytes());
-        let mut source = MemSource::of(bytes, List::new(alloc));
-        assert_eq!(rt;
-            shown(&rt, alloc, &mut source).as_slice(),
-            want.as_bytes(),
-            "at {input:?}"
-        );
-        let mut sure = SureSource::of(list_of(&rt, alloc, input.as_bytes()));
-        assert_eq!(rt;
-            shown(&rt, alloc, &mut sure).as_slice(),
-            want.as_bytes(),
-            "sure, at {input:?}"
-        );
-        let mut standard = StdSource::of(input.as_bytes());
-        assert_eq!(rt;
-            shown(&rt, alloc, &mut standard).as_slice(),
-            want.as_bytes(),
-            "standard, at {input:?}"
-        );
+    ] {
+        check_input(&rt, rt.alloc(), input, want);
     }
+}
+
+/// The lines of an input whose read of this number fails.
+fn check_fault(rt: &impl Abort, alloc: Global, call: u64, want: &str) {
+    let bytes = list_of(rt, alloc, b"a\nb");
+    let mut source = MemSource::of(bytes, fails_at(rt, alloc, call));
+    check_lines(rt, alloc, &mut source, want);
 }
 
 // The reads after the fault would succeed, and are not made.
 #[test]
 fn a_read_fault_stays(rt: HostRuntime) {
-    let alloc = rt.alloc();
     for (call, want) in [(0, "rrrr"), (1, "a|rrr"), (2, "a|b|rr")] {
-        let mut source = MemSource::of(list_of(&rt, alloc, b"a\nb"), fails_at(&rt, alloc, call));
-        assert_eq!(rt;
-            shown(&rt, alloc, &mut source).as_slice(),
-            want.as_bytes(),
-            "at {call}"
-        );
+        check_fault(&rt, rt.alloc(), call, want);
     }
-    assert_eq!(rt;
-        shown(&rt, alloc, &mut StdSource::of(Broken)).as_slice(),
-        b"rrrr".as_slice()
-    );
+    check_lines(&rt, rt.alloc(), &mut StdSource::of(Broken), "rrrr");
+}
+
+/// How many bytes the first line has of an input of so many `x` and an end, none where it is too long.
+fn first_line(rt: &impl Abort, alloc: Global, count: usize, end: &str) -> Option<usize> {
+    let mut bytes = List::of(vec![in alloc; b'x'; count].expect(rt, "memory"));
+    bytes.extend(end.as_bytes()).expect(rt, "memory");
+    let mut lines = LineBuf::new(alloc).expect(rt, "memory");
+    match read_line(alloc, &mut SureSource::of(bytes), &mut lines) {
+        Ok(Line::Text(text)) => Some(text.len()),
+        Ok(Line::End) => Some(0),
+        Err(LineError::TooLong) => None,
+        Err(_) => panic!(rt; "the line is read"),
+    }
+}
+
+/// How many bytes the first line has.
+fn check_length(rt: &impl Abort, alloc: Global, count: usize, end: &str, want: Option<usize>) {
+    let found = first_line(rt, alloc, count, end);
+    assert_eq!(rt; found, want, "at {count} and {end:?}");
 }
 
 #[test]
 fn long_lines(rt: HostRuntime) {
-    let alloc = rt.alloc();
-    let cases = [
+    for (count, end, want) in [
         (200_000, "\n", Some(200_000)),
         (200_001, "\n", None),
         (199_999, "\r\n", Some(199_999)),
         (200_000, "\r\n", None),
         (200_000, "", Some(200_000)),
         (200_001, "", None),
-    ];
-    for (count, end, want) in cases {
-        let mut bytes = List::of(vec![in alloc; b'x'; count].expect(&rt, "memory"));
-        bytes.extend(end.as_bytes()).expect(&rt, "memory");
-        let mut source = SureSource::of(bytes);
-        let mut lines = LineBuf::new(alloc).expect(&rt, "memory");
-        let got = match read_line(alloc, &mut source, &mut lines) {
-            Ok(Line::Text(text)) => Some(text.len()),
-            Ok(Line::End) => Some(0),
-            Err(error) => {
-                assert_eq!(rt; error, LineError::TooLong);
-                None
-            }
-        };
-        assert_eq!(rt; got, want, "at {count} and {end:?}");
+    ] {
+        check_length(&rt, rt.alloc(), count, end, want);
     }
+}
+
+/// What a piece's writing answers, and what is written then.
+fn check_piece(
+    rt: &impl Abort,
+    sink: &mut MemSink,
+    piece: &str,
+    want: Result<(), Failed>,
+    written: &str,
+) {
+    let ended = write_all(sink, piece.as_bytes());
+    assert_eq!(rt; ended, want, "of {piece:?}");
+    check_bytes(rt, sink.written(), written.as_bytes(), piece);
 }
 
 // The sink fails at its second write, and an empty piece makes none.
 #[test]
 fn pieces_are_written_whole(rt: HostRuntime) {
-    let alloc = rt.alloc();
-    let mut sink = MemSink::of(fails_at(&rt, alloc, 1));
-    for (piece, want, written) in [
-        ("ab", Ok(()), "ab"),
-        ("cd", Err(Failed), "ab"),
-        ("", Ok(()), "ab"),
-        ("ef", Ok(()), "abef"),
-    ] {
-        assert_eq!(rt;
-            write_all(&mut sink, piece.as_bytes()),
-            want,
-            "of {piece:?}"
-        );
-        assert_eq!(rt; sink.written(), written.as_bytes(), "after {piece:?}");
-    }
+    let mut sink = MemSink::of(fails_at(&rt, rt.alloc(), 1));
+    check_piece(&rt, &mut sink, "ab", Ok(()), "ab");
+    check_piece(&rt, &mut sink, "cd", Err(Failed), "ab");
+    check_piece(&rt, &mut sink, "", Ok(()), "ab");
+    check_piece(&rt, &mut sink, "ef", Ok(()), "abef");
+}
+
+#[test]
+fn a_sink_that_never_fails(rt: HostRuntime) {
     assert_eq!(rt; write_all(&mut SureSink::of(), b"ab"), Ok(()));
     assert_eq!(rt; SureSink::of().write(b"ab"), Ok(2));
-    let mut vec = Vec::new(alloc);
+}
+
+#[test]
+fn a_list_of_std_takes_a_piece(rt: HostRuntime) {
+    let mut vec = Vec::new(rt.alloc());
     assert_eq!(rt; write_all(&mut StdSink::of(&mut vec), b"ab"), Ok(()));
-    assert_eq!(rt; vec.as_slice(), b"ab".as_slice());
+    check_bytes(&rt, vec.as_slice(), b"ab", "the list");
 }
 
 #[test]
@@ -145,7 +154,11 @@ fn a_writer_with_too_little_room_takes_a_front(rt: HostRuntime) {
         write_all(&mut StdSink::of(&mut room[..]), b"abcd"),
         Err(Failed)
     );
-    assert_eq!(rt; room, [b'a', b'b', b'c']);
+    check_bytes(&rt, &room, b"abc", "the room");
+}
+
+#[test]
+fn a_writer_that_cannot_flush(rt: HostRuntime) {
     assert_eq!(rt; write_all(&mut StdSink::of(Broken), b"ab"), Err(Failed));
 }
 
@@ -169,21 +182,25 @@ impl Write for Broken {
     }
 }
 
+/// The moment of so many ticks is in this hour and second.
+fn check_moment(rt: &impl Abort, ticks: u64, hour: u32, seconds: u64) {
+    let moment = moment(rt, ticks);
+    assert_eq!(rt; moment.ticks(), ticks);
+    assert_eq!(rt; moment.hour(), hour);
+    assert_eq!(rt; moment.seconds(), seconds);
+}
+
+#[test]
+fn hours_and_seconds_of_moments(rt: HostRuntime) {
+    check_moment(&rt, 36_000_000_000, 1, 3_600);
+    check_moment(&rt, 133_485_408_000_000_000, 3_707_928, 13_348_540_800);
+    check_moment(&rt, u64::MAX, 512_409_557, 1_844_674_407_370);
+}
+
 #[test]
 fn moments_begin_an_hour_after_1601(rt: HostRuntime) {
     assert_eq!(rt; Moment::of(35_999_999_999), None);
     assert_eq!(rt; Some(Moment::first()), Moment::of(36_000_000_000));
-    let cases = [
-        (36_000_000_000, 1, 3_600),
-        (133_485_408_000_000_000, 3_707_928, 13_348_540_800),
-        (u64::MAX, 512_409_557, 1_844_674_407_370),
-    ];
-    for (ticks, hour, seconds) in cases {
-        let moment = Moment::of(ticks).expect(&rt, "the moment is past the first hour");
-        assert_eq!(rt; moment.ticks(), ticks);
-        assert_eq!(rt; moment.hour(), hour);
-        assert_eq!(rt; moment.seconds(), seconds);
-    }
 }
 
 #[test]
@@ -203,31 +220,54 @@ fn exit_codes_of_statuses(rt: HostRuntime) {
     }
 }
 
+/// A list has these bytes.
+fn check_list(rt: &impl Abort, list: &List<u8>, want: &[u8]) {
+    check_bytes(rt, list.as_slice(), want, "the list");
+    assert_eq!(rt;
+        (list.len(), list.is_empty()),
+        (want.len(), want.is_empty())
+    );
+}
+
 #[test]
-fn lists_and_their_copies(rt: HostRuntime) {
+fn lists_of_bytes(rt: HostRuntime) {
     let alloc = rt.alloc();
     let mut list = List::from_slice(alloc, b"abc").expect(&rt, "memory");
-    assert_eq!(rt; list.as_slice(), b"abc".as_slice());
+    check_list(&rt, &list, b"abc");
     list.extend_copies(alloc, b"de").expect(&rt, "memory");
-    assert_eq!(rt; list.as_slice(), b"abcde".as_slice());
-    assert_eq!(rt; list.len(), 5);
+    check_list(&rt, &list, b"abcde");
+    assert!(rt; list.len() == 5);
     list.set(1, b'x');
-    assert_eq!(rt; list.as_slice(), b"axcde".as_slice());
-    assert_eq!(rt;
-        (list.get(1).copied(), list.get(5).copied()),
-        (Some(b'x'), None)
-    );
+    check_list(&rt, &list, b"axcde");
+    check_list(&rt, &List::new(alloc), b"");
+}
+
+#[test]
+fn items_of_a_list(rt: HostRuntime) {
+    let list = list_of(&rt, rt.alloc(), b"abc");
+    assert_eq!(rt; list.get(1).copied(), Some(b'b'));
+    assert_eq!(rt; list.get(3).copied(), None);
+}
+
+/// A list of one list of bytes.
+fn nested(rt: &impl Abort, alloc: Global, bytes: &[u8]) -> List<List<u8>> {
     let mut outer = List::new(alloc);
-    assert!(rt; outer.is_empty());
-    outer.push(list).expect(&rt, "memory");
-    let copy = outer.copy(alloc).expect(&rt, "memory");
-    let Some(inner) = copy.get(0) else {
-        panic!(rt; "the copy has an item");
-    };
-    assert_eq!(rt; inner.as_slice(), b"axcde".as_slice());
-    assert!(rt; !copy.is_empty());
-    assert_eq!(rt; copy.into_vec().len(), 1);
+    outer.push(list_of(rt, alloc, bytes)).expect(rt, "memory");
+    outer
+}
+
+#[test]
+fn a_copy_of_a_list_of_lists(rt: HostRuntime) {
+    let alloc = rt.alloc();
+    let outer = nested(&rt, alloc, b"axcde");
     crosses(&outer);
+    let copy = outer.copy(alloc).expect(&rt, "memory");
+    check_list(
+        &rt,
+        copy.get(0).expect(&rt, "the copy has an item"),
+        b"axcde",
+    );
+    assert_eq!(rt; copy.into_vec().len(), 1);
 }
 
 #[test]

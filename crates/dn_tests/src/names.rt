@@ -1,6 +1,8 @@
 use crate::fixtures::{crosses, is_on_wire, name_on_wire};
 use dn_name::{Name, NameError, NameFault, NoRoom};
+use std::alloc::Global;
 use std::cmp::Ordering;
+use std::process::Abort;
 
 const ROOT: &[u8] = b"\0";
 
@@ -12,21 +14,35 @@ const SHOUTED: &[u8] = b"\x07EXAMple\x03oRg\0";
 
 const HOST: &[u8] = b"\x01a\x07example\x03org\0";
 
+/// A name has so many bytes on the wire and labels, and a parent or none.
+fn check_sizes(rt: &impl Abort, name: &Name, wire_len: usize, labels: u8, is_root: bool) {
+    assert_eq!(rt; (name.wire_len(), name.labels()), (wire_len, labels));
+    assert_eq!(rt; name.parent().is_none(), is_root);
+}
+
 #[test]
 fn a_name_and_its_parts(rt: HostRuntime) {
     let root = Name::root();
     crosses(&root);
-    assert_eq!(rt;
-        (root.wire_len(), root.labels(), root.parent().is_none()),
-        (1, 0, true)
-    );
+    check_sizes(&rt, &root, 1, 0, true);
     let host = name_on_wire(&rt, HOST);
-    assert_eq!(rt; (host.wire_len(), host.labels()), (15, 3));
+    check_sizes(&rt, &host, 15, 3, false);
     let copy = host;
     let above = copy.parent().expect(&rt, "the name has a label");
     assert!(rt; is_on_wire(&above, EXAMPLE));
     assert!(rt; is_on_wire(&host, HOST));
+}
+
+#[test]
+fn a_name_in_lower_case(rt: HostRuntime) {
     assert!(rt; is_on_wire(&name_on_wire(&rt, SHOUTED).lower(), EXAMPLE));
+}
+
+/// Whether the first name is the second, and whether it stands under it.
+fn check_pair(rt: &impl Abort, left: &[u8], right: &[u8], same: bool, under: bool) {
+    let (left, right) = (name_on_wire(rt, left), name_on_wire(rt, right));
+    assert_eq!(rt; left.same(&right), same);
+    assert_eq!(rt; left.is_under(&right), under);
 }
 
 #[test]
@@ -42,9 +58,14 @@ fn same_and_under(rt: HostRuntime) {
         (b"\x07example\x03com\0".as_slice(), EXAMPLE, false, false),
         (b"\x01[\0".as_slice(), b"\x01{\0".as_slice(), false, false),
     ] {
-        let (left, right) = (name_on_wire(&rt, left), name_on_wire(&rt, right));
-        assert_eq!(rt; (left.same(&right), left.is_under(&right)), (same, under));
+        check_pair(&rt, left, right, same, under);
     }
+}
+
+/// How the first name stands to the second.
+fn check_order(rt: &impl Abort, left: &[u8], right: &[u8], want: Ordering) {
+    let (left, right) = (name_on_wire(rt, left), name_on_wire(rt, right));
+    assert_eq!(rt; left.compare(&right), want);
 }
 
 /// The order of RFC 4034 6.1: each name stands before the next.
@@ -65,29 +86,31 @@ fn the_order_of_names(rt: HostRuntime) {
     ];
     for (place, left) in names.iter().enumerate() {
         for (other, right) in names.iter().enumerate() {
-            let (left, right) = (name_on_wire(&rt, left), name_on_wire(&rt, right));
-            assert_eq!(rt;
-                left.compare(&right),
-                place.cmp(&other),
-                "at {place} and {other}"
-            );
+            check_order(&rt, left, right, place.cmp(&other));
         }
     }
-    let (example, shouted) = (name_on_wire(&rt, EXAMPLE), name_on_wire(&rt, SHOUTED));
-    assert_eq!(rt; example.compare(&shouted), Ordering::Equal);
+    check_order(&rt, EXAMPLE, SHOUTED, Ordering::Equal);
+}
+
+/// Bytes of a name written at a place into seven bytes of 9: the place behind it and the bytes, or none and no change.
+fn check_written(rt: &impl Abort, at: usize, want: Result<usize, NoRoom>, bytes: &[u8; 7]) {
+    let mut out = [9; 7];
+    let org = name_on_wire(rt, ORG);
+    assert_eq!(rt; org.write_wire(&mut out, at), want);
+    assert_eq!(rt; out.as_slice(), bytes.as_slice());
 }
 
 #[test]
 fn written_where_there_is_room(rt: HostRuntime) {
-    let org = name_on_wire(&rt, ORG);
-    let mut out = [9; 7];
-    assert_eq!(rt; org.write_wire(&mut out, 3), Err(NoRoom));
-    assert_eq!(rt; org.write_wire(&mut out, usize::MAX), Err(NoRoom));
-    assert_eq!(rt; out, [9; 7]);
-    assert_eq!(rt; org.write_wire(&mut out, 2), Ok(7));
-    assert_eq!(rt; out.as_slice(), b"\x09\x09\x03org\0".as_slice());
-    assert_eq!(rt; org.write_wire(&mut out, 0), Ok(5));
-    assert_eq!(rt; out.as_slice(), b"\x03org\0g\0".as_slice());
+    check_written(&rt, 3, Err(NoRoom), b"\x09\x09\x09\x09\x09\x09\x09");
+    check_written(
+        &rt,
+        usize::MAX,
+        Err(NoRoom),
+        b"\x09\x09\x09\x09\x09\x09\x09",
+    );
+    check_written(&rt, 2, Ok(7), b"\x09\x09\x03org\0");
+    check_written(&rt, 0, Ok(5), b"\x03org\0\x09\x09");
 }
 
 /// A wire of three labels of 63 bytes and one of `last`.
@@ -101,6 +124,12 @@ fn long(last: u8) -> [u8; 259] {
         *end = 0;
     }
     wire
+}
+
+/// Bytes begin with a name of so many, or with none.
+fn check_read(rt: &impl Abort, bytes: &[u8], want: Option<usize>) {
+    let found = Name::read_plain(bytes).map(|(name, len)| (name.wire_len(), len));
+    assert_eq!(rt; found, want.map(|len| (len, len)));
 }
 
 #[test]
@@ -124,9 +153,14 @@ fn read_from_bytes(rt: HostRuntime) {
         (b"\x01a\xc0\x00\0".as_slice(), None),
         (&over, None),
     ] {
-        let found = Name::read_plain(bytes).map(|(name, len)| (name.wire_len(), len));
-        assert_eq!(rt; found, want.map(|len| (len, len)));
+        check_read(&rt, bytes, want);
     }
+}
+
+/// A text is the name of these bytes.
+fn check_text(rt: &impl Abort, text: &[u8], wire: &[u8]) {
+    let name = Name::from_text(text).ok().expect(rt, "the text is a name");
+    assert!(rt; is_on_wire(&name, wire));
 }
 
 #[test]
@@ -141,8 +175,20 @@ fn texts_of_names(rt: HostRuntime) {
         (b"\\000\\255.\\ ~!", b"\x02\x00\xff\x03 ~!\0"),
         (b"_sip._tcp.*", b"\x04_sip\x04_tcp\x01*\0"),
     ] {
-        let name = Name::from_text(text).ok().expect(&rt, "the text is a name");
-        assert!(rt; is_on_wire(&name, wire));
+        check_text(&rt, text, wire);
+    }
+}
+
+/// What is wrong with a text that is to be a name, and where.
+fn check_error(rt: &impl Abort, text: &[u8], want: Option<NameError>) {
+    assert_eq!(rt; Name::from_text(text).err(), want);
+}
+
+/// A text that is bad at this place.
+fn bad_text(place: usize) -> NameError {
+    NameError {
+        kind: NameFault::BadText,
+        place,
     }
 }
 
@@ -162,18 +208,33 @@ fn texts_of_no_names(rt: HostRuntime) {
         (b"a b", 1),
         (b"a.b\xe9", 3),
     ] {
-        assert_eq!(rt;
-            Name::from_text(text).err(),
-            Some(NameError {
-                kind: NameFault::BadText,
-                place
-            })
-        );
+        check_error(&rt, text, Some(bad_text(place)));
     }
 }
 
 /// A label of 63 bytes with its dot.
 const LONGEST: &[u8] = b"aaaaaaaaaaaaaaaaaaaaaaaaaaaaaaaaaaaaaaaaaaaaaaaaaaaaaaaaaaaaaaa.";
+
+/// So many longest labels behind a front, and a last one of so many bytes.
+fn long_text(rt: &impl Abort, alloc: Global, front: &[u8], count: u32, last: u32) -> Vec<u8> {
+    let mut text = Vec::from_slice(alloc, front).expect(rt, "memory");
+    for _ in 0..count {
+        text.extend_from_slice(LONGEST).expect(rt, "memory");
+    }
+    for _ in 0..last {
+        text.push(b'a').expect(rt, "memory");
+    }
+    text
+}
+
+/// A text, and the same with a bad escape behind it, which changes only what else would be a name.
+fn check_long(rt: &impl Abort, text: Vec<u8>, want: Option<NameError>) {
+    let mut text = text;
+    check_error(rt, text.as_slice(), want);
+    let place = text.len();
+    text.push(b'\\').expect(rt, "memory");
+    check_error(rt, text.as_slice(), Some(want.unwrap_or(bad_text(place))));
+}
 
 #[test]
 fn long_texts(rt: HostRuntime) {
@@ -187,28 +248,18 @@ fn long_texts(rt: HostRuntime) {
         (b"\\065.", 3, 59, None),
         (b"\\065.", 3, 60, Some((NameFault::NameTooLong, 197))),
     ] {
-        let mut text = Vec::from_slice(rt.alloc(), front).expect(&rt, "memory");
-        for _ in 0..count {
-            text.extend_from_slice(LONGEST).expect(&rt, "memory");
-        }
-        for _ in 0..last {
-            text.push(b'a').expect(&rt, "memory");
-        }
-        let found = Name::from_text(text.as_slice());
-        let expected = error.map(|(kind, place)| NameError { kind, place });
-        assert_eq!(rt; found.err(), expected);
-        // a bad escape behind changes only what else would be a name
-        let place = text.len();
-        text.push(b'\\').expect(&rt, "memory");
-        let found = Name::from_text(text.as_slice());
-        assert_eq!(rt;
-            found.err(),
-            Some(expected.unwrap_or(NameError {
-                kind: NameFault::BadText,
-                place
-            }))
-        );
+        let want = error.map(|(kind, place)| NameError { kind, place });
+        check_long(&rt, long_text(&rt, rt.alloc(), front, count, last), want);
     }
+}
+
+/// The text of a name, in front of a room that stays as it was.
+fn check_printed(rt: &impl Abort, wire: &[u8], text: &[u8]) {
+    let mut out = [b'?'; 1020];
+    let len = name_on_wire(rt, wire).write_text(&mut out);
+    assert_eq!(rt; len, text.len());
+    assert!(rt; out.iter().take(len).eq(text.iter()));
+    assert!(rt; out.iter().skip(len).all(|byte| *byte == b'?'));
 }
 
 #[test]
@@ -220,30 +271,31 @@ fn names_as_text(rt: HostRuntime) {
         (b"\x04_sip\x01*\x03a-9\0", b"_sip.*.a-9"),
         (b"\x05.\\ \x00\xff\x01b\0", b"\\046\\092\\032\\000\\255.b"),
     ] {
-        let name = name_on_wire(&rt, wire);
-        let mut out = [b'?'; 1020];
-        let len = name.write_text(&mut out);
-        assert_eq!(rt; len, text.len());
-        assert_eq!(rt; out.iter().take(len).eq(text.iter()), true);
-        assert_eq!(rt; out.iter().skip(len).all(|byte| *byte == b'?'), true);
+        check_printed(&rt, wire, text);
     }
+}
+
+/// The text of a name of 255 bytes, each of which is written as an escape, with a dot at its end.
+fn longest_text(rt: &impl Abort, alloc: Global) -> Vec<u8> {
+    let mut text = Vec::new(alloc);
+    for len in [63, 63, 63, 61] {
+        for _ in 0..len {
+            text.extend_from_slice(b"\\200").expect(rt, "memory");
+        }
+        text.push(b'.').expect(rt, "memory");
+    }
+    text
 }
 
 /// The longest text has 1,003 bytes: 250 bytes of labels, each in four, and three dots between them.
 #[test]
 fn the_longest_text(rt: HostRuntime) {
-    let mut text = Vec::new(rt.alloc());
-    for len in [63, 63, 63, 61] {
-        for _ in 0..len {
-            text.extend_from_slice(b"\\200").expect(&rt, "memory");
-        }
-        text.push(b'.').expect(&rt, "memory");
-    }
+    let text = longest_text(&rt, rt.alloc());
     let name = Name::from_text(text.as_slice())
         .ok()
         .expect(&rt, "the text is a name");
     let mut out = [0; 1020];
     let len = name.write_text(&mut out);
-    assert_eq!(rt; (name.wire_len(), len), (255, text.len() - 1));
-    assert_eq!(rt; out.iter().take(len).eq(text.iter().take(len)), true);
+    assert_eq!(rt; (name.wire_len(), len), (255, 1003));
+    assert!(rt; out.iter().take(len).eq(text.iter().take(len)));
 }

@@ -1,4 +1,4 @@
-use crate::fixtures::{TXT, is_on_wire, list_of, name};
+use crate::fixtures::{TXT, check_bytes, is_on_wire, list_of, name};
 use dn_admin::{answer_line, command_of};
 use dn_io::List;
 use dn_rdata::{A, CNAME, NS, PTR, SOA};
@@ -12,9 +12,18 @@ use dn_zone::{AdminCmd, AdminDone, Answer};
 use std::alloc::Global;
 use std::process::Abort;
 
+/// A line has these words, each with a bar behind it.
+fn check_words(rt: &impl Abort, alloc: Global, line: &str, want: &str) {
+    let mut found = List::new(alloc);
+    for word in words_of(alloc, line.as_bytes()).expect(rt, "memory") {
+        found.extend(word).expect(rt, "memory");
+        found.push(b'|').expect(rt, "memory");
+    }
+    check_bytes(rt, found.as_slice(), want.as_bytes(), line);
+}
+
 #[test]
 fn words_of_lines(rt: HostRuntime) {
-    let alloc = rt.alloc();
     for (line, want) in [
         ("", ""),
         (" \t ", ""),
@@ -23,14 +32,14 @@ fn words_of_lines(rt: HostRuntime) {
         ("\t ask a ", "ask|a|"),
         ("a\rb\x0cc \"d e\"", "a\rb\x0cc|\"d|e\"|"),
     ] {
-        let mut found = List::new(alloc);
-        let words = words_of(alloc, line.as_bytes()).expect(&rt, "memory");
-        for word in words {
-            found.extend(word).expect(&rt, "memory");
-            found.push(b'|').expect(&rt, "memory");
-        }
-        assert_eq!(rt; found.as_slice(), want.as_bytes(), "of {line:?}");
+        check_words(&rt, rt.alloc(), line, want);
     }
+}
+
+/// Whether a word is the type A, and whether it is `on`.
+fn check_kinds(rt: &impl Abort, word: &str, type_a: bool, is_on: bool) {
+    assert_eq!(rt; is_type_a(word.as_bytes()), type_a, "of {word:?}");
+    assert_eq!(rt; is_word(word.as_bytes(), b"on"), is_on, "of {word:?}");
 }
 
 #[test]
@@ -47,9 +56,16 @@ fn words_of_one_kind(rt: HostRuntime) {
         ("On", false, false),
         ("one", false, false),
     ] {
-        assert_eq!(rt; is_type_a(word.as_bytes()), type_a, "of {word:?}");
-        assert_eq!(rt; is_word(word.as_bytes(), b"on"), is_on, "of {word:?}");
+        check_kinds(&rt, word, type_a, is_on);
     }
+}
+
+/// A word is this number, in 32 bits and in 64, or none up to `most`.
+fn check_number(rt: &impl Abort, word: &str, most: u32, want: Option<u32>) {
+    let found = number_of(most, word.as_bytes());
+    assert_eq!(rt; found, want.ok_or(TextError::BadText), "of {word:?}");
+    let wide = number_within(u64::from(most), word.as_bytes());
+    assert_eq!(rt; wide, want.map(u64::from), "of {word:?}");
 }
 
 #[test]
@@ -70,14 +86,21 @@ fn numbers_of_words(rt: HostRuntime) {
         ("", 9, None),
         ("a", 9, None),
     ] {
-        let found = number_of(most, word.as_bytes());
-        assert_eq!(rt; found, want.ok_or(TextError::BadText), "of {word:?}");
-        let wide = number_within(u64::from(most), word.as_bytes());
-        assert_eq!(rt; wide, want.map(u64::from), "of {word:?}");
+        check_number(&rt, word, most, want);
     }
+}
+
+#[test]
+fn numbers_of_64_bits(rt: HostRuntime) {
     let most = number_within(u64::MAX, b"18446744073709551615");
     assert_eq!(rt; most, Some(u64::MAX));
     assert_eq!(rt; number_within(u64::MAX, b"18446744073709551616"), None);
+}
+
+/// A word isn't a name.
+fn check_no_name(rt: &impl Abort, word: &str) {
+    let error = name_of(word.as_bytes()).err();
+    assert_eq!(rt; error, Some(TextError::BadText), "of {word:?}");
 }
 
 #[test]
@@ -85,9 +108,14 @@ fn names_of_words(rt: HostRuntime) {
     let name = name_of(b"Ns1.x").expect(&rt, "the word is a name");
     assert!(rt; is_on_wire(&name, b"\x03Ns1\x01x\0"));
     for word in ["", "a..b", "a.\\256"] {
-        let error = name_of(word.as_bytes()).err();
-        assert_eq!(rt; error, Some(TextError::BadText), "of {word:?}");
+        check_no_name(&rt, word);
     }
+}
+
+/// A word is the moment of so many ticks, or none.
+fn check_moment(rt: &impl Abort, word: &str, want: Option<u64>) {
+    let found = moment_of(word.as_bytes()).map(|moment| moment.ticks());
+    assert_eq!(rt; found, want.ok_or(TextError::BadText), "of {word:?}");
 }
 
 #[test]
@@ -101,8 +129,7 @@ fn moments_of_words(rt: HostRuntime) {
         ("0", None),
         ("", None),
     ] {
-        let found = moment_of(word.as_bytes()).map(|moment| moment.ticks());
-        assert_eq!(rt; found, want.ok_or(TextError::BadText), "of {word:?}");
+        check_moment(&rt, word, want);
     }
 }
 
@@ -140,6 +167,13 @@ fn identities_of_replicas(rt: HostRuntime) {
     }
 }
 
+/// A word has these parts before and behind its first dot.
+fn check_parts(rt: &impl Abort, word: &str, before: &str, behind: &str) {
+    let (first, rest) = cut(word.as_bytes(), b'.').expect(rt, "the word has a dot");
+    check_bytes(rt, first, before.as_bytes(), word);
+    check_bytes(rt, rest, behind.as_bytes(), word);
+}
+
 #[test]
 fn parts_of_words(rt: HostRuntime) {
     for (word, before, behind) in [
@@ -148,10 +182,12 @@ fn parts_of_words(rt: HostRuntime) {
         ("a.", "a", ""),
         (".", "", ""),
     ] {
-        let (first, rest) = cut(word.as_bytes(), b'.').expect(&rt, "the word has a dot");
-        assert_eq!(rt; first, before.as_bytes(), "of {word:?}");
-        assert_eq!(rt; rest, behind.as_bytes(), "of {word:?}");
+        check_parts(&rt, word, before, behind);
     }
+}
+
+#[test]
+fn words_without_a_dot(rt: HostRuntime) {
     for word in ["", "a:b"] {
         assert!(rt; cut(word.as_bytes(), b'.').is_none(), "of {word:?}");
     }
@@ -178,12 +214,24 @@ fn addresses_of_words(rt: HostRuntime) {
 
 #[test]
 fn numbers_behind_what_they_count(rt: HostRuntime) {
-    let mut out = list_of(&rt, rt.alloc(), b"a ");
-    push_number(rt.alloc(), &mut out, 0).expect(&rt, "memory");
-    push_number(rt.alloc(), &mut out, u64::MAX).expect(&rt, "memory");
-    push_count(rt.alloc(), &mut out, b" of ", 120).expect(&rt, "memory");
-    let want = b"a 018446744073709551615 of 120".as_slice();
-    assert_eq!(rt; out.as_slice(), want);
+    let alloc = rt.alloc();
+    let mut out = list_of(&rt, alloc, b"a ");
+    push_number(alloc, &mut out, 0).expect(&rt, "memory");
+    push_number(alloc, &mut out, u64::MAX).expect(&rt, "memory");
+    push_count(alloc, &mut out, b" of ", 120).expect(&rt, "memory");
+    check_bytes(
+        &rt,
+        out.as_slice(),
+        b"a 018446744073709551615 of 120",
+        "numbers",
+    );
+}
+
+/// The line of a row at this name, with a time to live of 3600 seconds.
+fn check_row(rt: &impl Abort, alloc: Global, rtype: u16, rdata: &[u8], want: &str) {
+    let owner = name(rt, "W\\032.x");
+    let line = row_line(alloc, &owner, 3600, rtype, rdata).expect(rt, "memory");
+    check_bytes(rt, line.as_slice(), want.as_bytes(), want);
 }
 
 /// Data of each type that has a text, of another type, and names and numbers that are cut short.
@@ -203,13 +251,20 @@ fn lines_of_rows(rt: HostRuntime) {
         (CNAME, b"\0", "W\\032.x 3600 CNAME ."),
         (TXT, b"\x01a", "W\\032.x 3600 TYPE16 "),
     ];
-    let owner = name(&rt, "W\\032.x");
     for (rtype, rdata, want) in rows {
-        let line = row_line(rt.alloc(), &owner, 3600, rtype, rdata).expect(&rt, "memory");
-        assert_eq!(rt; line.as_slice(), want.as_bytes());
+        check_row(&rt, rt.alloc(), rtype, rdata, want);
     }
+}
+
+#[test]
+fn the_line_of_a_row_at_the_root(rt: HostRuntime) {
     let root = row_line(rt.alloc(), &name(&rt, "."), u32::MAX, A, &[0]).expect(&rt, "memory");
-    assert_eq!(rt; root.as_slice(), b". 4294967295 A 0".as_slice());
+    check_bytes(&rt, root.as_slice(), b". 4294967295 A 0", "the root");
+}
+
+/// An interval with its name.
+fn push_interval(rt: &impl Abort, alloc: Global, out: &mut List<u8>, called: &[u8], hours: u32) {
+    push_count(alloc, out, called, u64::from(hours)).expect(rt, "memory");
 }
 
 /// A command as its last words, an interval with its name, and an addition as `add HOUR` and the line of its row.
@@ -218,15 +273,8 @@ fn shown(rt: &impl Abort, alloc: Global, cmd: &AdminCmd) -> List<u8> {
     match cmd {
         AdminCmd::AgingOn => out.extend(b"on").expect(rt, "memory"),
         AdminCmd::AgingOff => out.extend(b"off").expect(rt, "memory"),
-        AdminCmd::NoRefresh(hours) => {
-            push_count(alloc, &mut out, b"norefresh ", u64::from(*hours)).expect(rt, "memory");
-        }
-        AdminCmd::Refresh(hours) => push_count(
-            alloc,
-            &mut out,
-            b"refresh ",
-            u64::from(*hours),
-        ).expect(rt, "memory"),
+        AdminCmd::NoRefresh(hours) => push_interval(rt, alloc, &mut out, b"norefresh ", *hours),
+        AdminCmd::Refresh(hours) => push_interval(rt, alloc, &mut out, b"refresh ", *hours),
         AdminCmd::Add {
             name,
             ttl,
@@ -234,18 +282,25 @@ fn shown(rt: &impl Abort, alloc: Global, cmd: &AdminCmd) -> List<u8> {
             rdata,
             hour,
         } => {
-            push_count(alloc, &mut out, b"add ", u64::from(*hour)).expect(rt, "memory");
-            out.extend(b" ").expect(rt, "memory");
+            push_interval(rt, alloc, &mut out, b"add ", *hour);
             let line = row_line(alloc, name, *ttl, *rtype, rdata.as_slice()).expect(rt, "memory");
+            out.extend(b" ").expect(rt, "memory");
             out.extend(line.as_slice()).expect(rt, "memory");
         }
     }
     out
 }
 
+/// The words of a line are this command.
+fn check_command(rt: &impl Abort, alloc: Global, line: &str, want: &str) {
+    let words = words_of(alloc, line.as_bytes()).expect(rt, "memory");
+    let cmd = command_of(alloc, &words).expect(rt, "the words are a command");
+    let found = shown(rt, alloc, &cmd);
+    check_bytes(rt, found.as_slice(), want.as_bytes(), line);
+}
+
 #[test]
 fn commands_of_words(rt: HostRuntime) {
-    let alloc = rt.alloc();
     for (line, want) in [
         ("aging on", "on"),
         ("aging off", "off"),
@@ -259,16 +314,19 @@ fn commands_of_words(rt: HostRuntime) {
         ),
         ("add h.x 60 A 10.0.0.1 hour 0", "add 0 h.x 60 A 10.0.0.1"),
     ] {
-        let words = words_of(alloc, line.as_bytes()).expect(&rt, "memory");
-        let cmd = command_of(alloc, &words).expect(&rt, "the words are a command");
-        let found = shown(&rt, alloc, &cmd);
-        assert_eq!(rt; found.as_slice(), want.as_bytes(), "of {line:?}");
+        check_command(&rt, rt.alloc(), line, want);
     }
+}
+
+/// The words of a line aren't a command.
+fn check_no_command(rt: &impl Abort, alloc: Global, line: &str) {
+    let words = words_of(alloc, line.as_bytes()).expect(rt, "memory");
+    let error = command_of(alloc, &words).err();
+    assert_eq!(rt; error, Some(TextError::BadText), "of {line:?}");
 }
 
 #[test]
 fn words_of_no_commands(rt: HostRuntime) {
-    let alloc = rt.alloc();
     for line in [
         "",
         "on",
@@ -290,10 +348,14 @@ fn words_of_no_commands(rt: HostRuntime) {
         "add h.x 60 A 10.0.0.1 hour 4294967296",
         "add h.x 60 A 10.0.0.1 hour 1 1",
     ] {
-        let words = words_of(alloc, line.as_bytes()).expect(&rt, "memory");
-        let error = command_of(alloc, &words).err();
-        assert_eq!(rt; error, Some(TextError::BadText), "of {line:?}");
+        check_no_command(&rt, rt.alloc(), line);
     }
+}
+
+/// The line of an answer.
+fn check_answer(rt: &impl Abort, alloc: Global, answer: Answer, want: &str) {
+    let line = answer_line(alloc, answer).expect(rt, "memory");
+    check_bytes(rt, line.as_slice(), want.as_bytes(), want);
 }
 
 #[test]
@@ -332,7 +394,6 @@ fn lines_of_answers(rt: HostRuntime) {
         (Answer::Refused(Limit::Version), "refused version\n"),
         (Answer::Refused(Limit::Changes), "refused changes\n"),
     ] {
-        let line = answer_line(rt.alloc(), answer).expect(&rt, "memory");
-        assert_eq!(rt; line.as_slice(), want.as_bytes());
+        check_answer(&rt, rt.alloc(), answer, want);
     }
 }
