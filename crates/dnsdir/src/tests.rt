@@ -1,8 +1,8 @@
 use crate::batch::batch;
 use crate::command::{Command, command_of};
-use dn_io::{Addr, List, MemSink, MemSource, OutOfMemory, Status, SureSource};
+use dn_io::{Addr, List, MemSink, MemSource, Source, Status, SureSource};
 use std::alloc::Global;
-use std::test::Fail;
+use std::process::Abort;
 
 const SCRIPT: &str = "\
 replica a 000102030405060708090a0b0c0d0e0f ns1.x
@@ -11,24 +11,28 @@ zone create a x admin.x
 admin a x add h.x 3600 A 10.0.0.1
 ";
 
-fn list_of(alloc: Global, bytes: &[u8]) -> Result<List<u8>, OutOfMemory> {
+fn list_of(rt: &impl Abort, alloc: Global, bytes: &[u8]) -> List<u8> {
     let mut list = List::new(alloc);
-    list.extend(bytes)?;
-    Ok(list)
+    list.extend(bytes).expect(rt, "memory");
+    list
 }
 
 // The numbers of the calls that fail: the first, or none.
-fn failing(alloc: Global, fails: bool) -> Result<List<u64>, OutOfMemory> {
+fn failing(rt: &impl Abort, alloc: Global, fails: bool) -> List<u64> {
     let mut calls = List::new(alloc);
     if fails {
-        calls.push(0)?;
+        calls.push(0).expect(rt, "memory");
     }
-    Ok(calls)
+    calls
+}
+
+// What the words of a command line ask for.
+fn check_command(rt: &impl Abort, words: &[&str], want: Command) {
+    assert!(rt; command_of(words) == want, "at {words:?}");
 }
 
 #[test]
 fn commands_of_words(rt: HostRuntime) {
-    assert_eq!(rt; command_of(&[]), Command::Usage);
     for (word, want) in [
         ("show", Command::Show),
         ("pack", Command::Pack),
@@ -39,11 +43,16 @@ fn commands_of_words(rt: HostRuntime) {
         ("Replay", Command::Usage),
         ("replay ", Command::Usage),
     ] {
-        assert_eq!(rt; command_of(&[word]), want, "at {word:?}");
+        check_command(&rt, &[word], want);
     }
-    assert_eq!(rt; command_of(&["replay", "now"]), Command::Usage);
-    assert_eq!(rt; command_of(&["serve", "1.2.3.4:5"]), Command::Usage);
-    assert_eq!(rt; command_of(&["replay", "a", "b", "c"]), Command::Usage);
+}
+
+#[test]
+fn too_few_and_too_many_words(rt: HostRuntime) {
+    check_command(&rt, &[], Command::Usage);
+    check_command(&rt, &["replay", "now"], Command::Usage);
+    check_command(&rt, &["serve", "1.2.3.4:5"], Command::Usage);
+    check_command(&rt, &["replay", "a", "b", "c"], Command::Usage);
 }
 
 #[test]
@@ -59,26 +68,26 @@ fn generated_steps(rt: HostRuntime) {
         ("", Command::Usage),
         ("ten", Command::Usage),
     ] {
-        assert_eq!(rt; command_of(&["generate", count]), want, "at {count:?}");
+        check_command(&rt, &["generate", count], want);
     }
 }
 
 #[test]
 fn addresses_to_serve_at(rt: HostRuntime) {
-    let low = Addr {
+    let at = Addr {
         ip: [127, 0, 0, 1],
         port: 53,
     };
-    let high = Addr {
+    let sync = Addr {
         ip: [0, 0, 0, 0],
         port: 65535,
     };
-    let both = Command::Serve {
-        at: low,
-        sync: high,
-    };
     let words = ["serve", "127.0.0.1:53", "0.0.0.0:65535"];
-    assert_eq!(rt; command_of(&words), both);
+    check_command(&rt, &words, Command::Serve { at, sync });
+}
+
+#[test]
+fn no_addresses_to_serve_at(rt: HostRuntime) {
     for bad in [
         "127.0.0.1",
         "127.0.0.1:",
@@ -93,63 +102,84 @@ fn addresses_to_serve_at(rt: HostRuntime) {
         ":53",
         "",
     ] {
-        let first = command_of(&["serve", bad, "0.0.0.0:65535"]);
-        assert_eq!(rt; first, Command::Usage, "at {bad:?}");
-        let second = command_of(&["serve", "0.0.0.0:65535", bad]);
-        assert_eq!(rt; second, Command::Usage, "behind, at {bad:?}");
+        check_command(&rt, &["serve", bad, "0.0.0.0:65535"], Command::Usage);
+        check_command(&rt, &["serve", "0.0.0.0:65535", bad], Command::Usage);
     }
+}
+
+// The status of a call with these words, and what it has written where the first write may fail.
+fn check_batch<S: Source>(
+    rt: &impl Abort,
+    alloc: Global,
+    words: &[&str],
+    source: &mut S,
+    no_write: bool,
+    want: Status,
+    output: &str,
+) {
+    let mut sink = MemSink::of(failing(rt, alloc, no_write));
+    let status = batch(alloc, words, source, &mut sink);
+    assert_eq!(rt; status, want);
+    assert_eq!(rt; sink.written(), output.as_bytes());
 }
 
 // An input, whether its first read fails, whether the first write fails, the status and what is written.
+fn check_replay(
+    rt: &impl Abort,
+    alloc: Global,
+    input: &str,
+    faults: (bool, bool),
+    want: Status,
+    output: &str,
+) {
+    let (no_read, no_write) = faults;
+    let bytes = list_of(rt, alloc, input.as_bytes());
+    let mut source = MemSource::of(bytes, failing(rt, alloc, no_read));
+    check_batch(rt, alloc, &["replay"], &mut source, no_write, want, output);
+}
+
 #[test]
-fn statuses_of_replays(rt: HostRuntime) -> Result<(), Fail> {
-    let alloc = rt.alloc();
-    for (input, no_read, no_write, want, output) in [
-        ("", false, false, Status::Done, ""),
-        ("nonsense\n", false, false, Status::BadLine(1), ""),
-        (SCRIPT, false, false, Status::Done, "ok 1\n"),
-        (SCRIPT, true, false, Status::ReadFault, ""),
-        (SCRIPT, false, true, Status::WriteFault, ""),
+fn statuses_of_replays(rt: HostRuntime) {
+    for (input, faults, want, output) in [
+        ("", (false, false), Status::Done, ""),
+        ("nonsense\n", (false, false), Status::BadLine(1), ""),
+        (SCRIPT, (false, false), Status::Done, "ok 1\n"),
+        (SCRIPT, (true, false), Status::ReadFault, ""),
+        (SCRIPT, (false, true), Status::WriteFault, ""),
     ] {
-        let mut source = MemSource::of(list_of(alloc, input.as_bytes())?, failing(alloc, no_read)?);
-        let mut sink = MemSink::of(failing(alloc, no_write)?);
-        let status = batch(alloc, &["replay"], &mut source, &mut sink);
-        assert_eq!(rt; status, want, "at {input:?}");
-        assert_eq!(rt; sink.written(), output.as_bytes(), "at {input:?}");
+        check_replay(&rt, rt.alloc(), input, faults, want, output);
     }
-    Ok(())
 }
 
 #[test]
-fn a_source_that_never_fails(rt: HostRuntime) -> Result<(), Fail> {
+fn a_source_that_never_fails(rt: HostRuntime) {
     let alloc = rt.alloc();
-    let mut source = SureSource::of(list_of(alloc, SCRIPT.as_bytes())?);
-    let mut sink = MemSink::of(List::new(alloc));
-    let status = batch(alloc, &["replay"], &mut source, &mut sink);
-    assert_eq!(rt; status, Status::Done);
-    assert_eq!(rt; sink.written(), "ok 1\n".as_bytes());
-    Ok(())
+    let mut source = SureSource::of(list_of(&rt, alloc, SCRIPT.as_bytes()));
+    let replay = ["replay"];
+    check_batch(
+        &rt,
+        alloc,
+        &replay,
+        &mut source,
+        false,
+        Status::Done,
+        "ok 1\n",
+    );
 }
 
 #[test]
-fn an_overlong_line(rt: HostRuntime) -> Result<(), Fail> {
+fn an_overlong_line(rt: HostRuntime) {
     let alloc = rt.alloc();
-    let line = List::of(vec![in alloc; b'#'; 200_001]?);
+    let line = List::of(vec![in alloc; b'#'; 200_001].expect(&rt, "memory"));
     let mut source = MemSource::of(line, List::new(alloc));
-    let mut sink = MemSink::of(List::new(alloc));
-    let status = batch(alloc, &["replay"], &mut source, &mut sink);
-    assert_eq!(rt; status, Status::TooLong);
-    assert_eq!(rt; sink.written(), "".as_bytes());
-    Ok(())
+    let replay = ["replay"];
+    check_batch(&rt, alloc, &replay, &mut source, false, Status::TooLong, "");
 }
 
 #[test]
-fn other_words_are_refused(rt: HostRuntime) -> Result<(), Fail> {
+fn other_words_are_refused(rt: HostRuntime) {
     let alloc = rt.alloc();
-    let mut source = MemSource::of(list_of(alloc, SCRIPT.as_bytes())?, List::new(alloc));
-    let mut sink = MemSink::of(List::new(alloc));
-    let status = batch(alloc, &["replay", "now"], &mut source, &mut sink);
-    assert_eq!(rt; status, Status::Usage);
-    assert_eq!(rt; sink.written(), "".as_bytes());
-    Ok(())
+    let mut source = SureSource::of(list_of(&rt, alloc, SCRIPT.as_bytes()));
+    let words = ["replay", "now"];
+    check_batch(&rt, alloc, &words, &mut source, false, Status::Usage, "");
 }
