@@ -1,4 +1,4 @@
-use crate::fixtures::{TXT, is_on_wire, name, node, put_one, put_record};
+use crate::fixtures::{TXT, check_bytes, is_on_wire, list_of, name, node, put_one, put_record};
 use dn_answer::{AnswerValue, Rcode, Rr, answer, refused};
 use dn_io::List;
 use dn_rdata::{A, AAAA, ANY, AXFR, CNAME, MX, NS, Record, SOA};
@@ -15,46 +15,71 @@ const ANSWERED_START: &[u8] =
 
 const LONG: &str = "a-name-of-more-than-thirty-bytes.x";
 
-/// The zone x. after one write a record, without its SOA and its longest name.
-fn small_nodes(rt: &impl Abort, alloc: Global) -> Table {
-    let mut table = Table::empty(alloc).expect(rt, "memory");
-    for (owner, rtype, rdata) in [
-        ("x", NS, "\x02ns\x01x\0"),
-        ("a.x", A, "1234"),
-        ("a.x", A, "1235"),
-        ("b.c.x", A, "1234"),
-        ("link.x", CNAME, "\x01A\x01X\0"),
-        ("away.x", CNAME, "\x01a\x01y\0"),
-        ("ring.x", CNAME, "\x04ring\x01x\0"),
-        ("r.x", CNAME, "\x01s\x01x\0"),
-        ("s.x", CNAME, "\x01R\x01x\0"),
-        ("down.x", CNAME, "\x01W\x03sub\x01x\0"),
-        ("post.x", MX, "\0\x01\x01a\x01x\0"),
-        (
-            "mail.x",
-            MX,
-            "\0\x01\x20a-name-of-more-than-thirty-bytes\x01x\0",
-        ),
-        ("sub.x", NS, "\x02NS\x03sub\x01x\0"),
-        ("sub.x", NS, "\x02ns\x01y\0"),
-        ("ns.sub.x", AAAA, "1234567812345678"),
-        ("ns.sub.x", A, "1234"),
-    ] {
-        let row = Record::make(alloc, rtype, 7200, 0, rdata.as_bytes()).expect(rt, "memory");
-        table = put_record(rt, alloc, &table, owner, row);
+/// The table without units.
+fn empty(rt: &impl Abort, alloc: Global) -> Table {
+    Table::empty(alloc).expect(rt, "memory")
+}
+
+/// The table after one write of a record with a time to live of 7200 seconds behind a node's others.
+fn put_row(
+    rt: &impl Abort,
+    alloc: Global,
+    table: &Table,
+    owner: &str,
+    rtype: u16,
+    rdata: &[u8],
+) -> Table {
+    let row = Record::make(alloc, rtype, 7200, 0, rdata).expect(rt, "memory");
+    put_record(rt, alloc, table, owner, row)
+}
+
+/// The owner, type and data of each record of the zone x., without its SOA and its longest name.
+const ROWS: &[(&str, u16, &str)] = &[
+    ("x", NS, "\x02ns\x01x\0"),
+    ("a.x", A, "1234"),
+    ("a.x", A, "1235"),
+    ("b.c.x", A, "1234"),
+    ("link.x", CNAME, "\x01A\x01X\0"),
+    ("away.x", CNAME, "\x01a\x01y\0"),
+    ("ring.x", CNAME, "\x04ring\x01x\0"),
+    ("r.x", CNAME, "\x01s\x01x\0"),
+    ("s.x", CNAME, "\x01R\x01x\0"),
+    ("down.x", CNAME, "\x01W\x03sub\x01x\0"),
+    ("post.x", MX, "\0\x01\x01a\x01x\0"),
+    (
+        "mail.x",
+        MX,
+        "\0\x01\x20a-name-of-more-than-thirty-bytes\x01x\0",
+    ),
+    ("sub.x", NS, "\x02NS\x03sub\x01x\0"),
+    ("sub.x", NS, "\x02ns\x01y\0"),
+    ("ns.sub.x", AAAA, "1234567812345678"),
+    ("ns.sub.x", A, "1234"),
+];
+
+/// The table after one write a record.
+fn put_rows(rt: &impl Abort, alloc: Global, rows: &[(&str, u16, &str)]) -> Table {
+    let mut table = empty(rt, alloc);
+    for (owner, rtype, rdata) in rows {
+        table = put_row(rt, alloc, &table, owner, *rtype, rdata.as_bytes());
+    }
+    table
+}
+
+/// The table after writes of 17 addresses at a long name.
+fn put_addresses(rt: &impl Abort, alloc: Global, before: Table) -> Table {
+    let mut table = before;
+    for last in 0..17 {
+        table = put_row(rt, alloc, &table, LONG, A, &[192, 0, 2, last]);
     }
     table
 }
 
 /// The zone x. after 35 writes, with 17 addresses at a long name, and a tombstone.
 fn zone(rt: &impl Abort, alloc: Global) -> Table {
-    let mut table = small_nodes(rt, alloc);
-    let start = Record::make(alloc, SOA, 7200, 0, START).expect(rt, "memory");
-    table = put_record(rt, alloc, &table, "x", start);
-    for last in 0..17 {
-        let row = Record::make(alloc, A, 7200, 0, &[192, 0, 2, last]).expect(rt, "memory");
-        table = put_record(rt, alloc, &table, LONG, row);
-    }
+    let nodes = put_rows(rt, alloc, ROWS);
+    let started = put_row(rt, alloc, &nodes, "x", SOA, START);
+    let table = put_addresses(rt, alloc, started);
     put_one(
         rt,
         alloc,
@@ -70,152 +95,234 @@ fn ask(rt: &impl Abort, alloc: Global, table: &Table, text: &str, qtype: u16) ->
     answer(alloc, table, &apex, &host, &name(rt, text), qtype).expect(rt, "memory")
 }
 
-/// How many rows the sections have.
-fn counts(reply: &AnswerValue) -> (usize, usize, usize) {
-    (
-        reply.answer.len(),
-        reply.authority.len(),
-        reply.additional.len(),
-    )
+/// What the replica h. of the zone x. answers after 35 writes.
+fn ask_zone(rt: &impl Abort, alloc: Global, text: &str, qtype: u16) -> AnswerValue {
+    ask(rt, alloc, &zone(rt, alloc), text, qtype)
+}
+
+/// The answer, the authority and the additional section have so many rows.
+fn check_counts(rt: &impl Abort, reply: &AnswerValue, sections: (usize, usize, usize), of: &str) {
+    assert_eq!(rt; reply.answer.len(), sections.0, "of {of}");
+    assert_eq!(rt; reply.authority.len(), sections.1, "of {of}");
+    assert_eq!(rt; reply.additional.len(), sections.2, "of {of}");
+}
+
+/// The reply has this code, the flags AA and TC as here, and so many rows in its sections.
+fn check_reply(
+    rt: &impl Abort,
+    reply: &AnswerValue,
+    rcode: Rcode,
+    flags: (bool, bool),
+    sections: (usize, usize, usize),
+    of: &str,
+) {
+    assert_eq!(rt; reply.rcode, rcode, "of {of}");
+    assert_eq!(rt; (reply.aa, reply.tc), flags, "of {of}");
+    check_counts(rt, reply, sections, of);
+}
+
+/// The zone answers with so many rows, so many more beside them, and none of its SOA.
+fn check_found(
+    rt: &impl Abort,
+    alloc: Global,
+    table: &Table,
+    text: &str,
+    qtype: u16,
+    answer: usize,
+    additional: usize,
+) {
+    let reply = ask(rt, alloc, table, text, qtype);
+    let sections = (answer, 0, additional);
+    check_reply(rt, &reply, Rcode::NoError, (true, false), sections, text);
 }
 
 #[test]
-fn codes_and_counts(rt: HostRuntime) {
+fn counts_of_answers(rt: HostRuntime) {
     let alloc = rt.alloc();
     let table = zone(&rt, alloc);
-    for (text, qtype, rcode, aa, tc, sections) in [
-        ("a.x", A, Rcode::NoError, true, false, (2, 0, 0)),
-        ("A.X", ANY, Rcode::NoError, true, false, (2, 0, 0)),
-        ("x", ANY, Rcode::NoError, true, false, (2, 0, 0)),
-        ("x", NS, Rcode::NoError, true, false, (1, 0, 0)),
-        ("a.x", NS, Rcode::NoError, true, false, (0, 1, 0)),
-        ("c.x", A, Rcode::NoError, true, false, (0, 1, 0)),
-        ("no.x", A, Rcode::NxDomain, true, false, (0, 1, 0)),
-        ("no.a.x", A, Rcode::NxDomain, true, false, (0, 1, 0)),
-        ("gone.x", A, Rcode::NxDomain, true, false, (0, 1, 0)),
-        ("link.x", A, Rcode::NoError, true, false, (3, 0, 0)),
-        ("link.x", CNAME, Rcode::NoError, true, false, (1, 0, 0)),
-        ("away.x", A, Rcode::NoError, true, false, (1, 0, 0)),
-        ("ring.x", A, Rcode::NoError, true, false, (1, 0, 0)),
-        ("r.x", A, Rcode::NoError, true, false, (2, 0, 0)),
-        ("w.sub.x", A, Rcode::NoError, false, false, (0, 2, 2)),
-        ("sub.x", NS, Rcode::NoError, false, false, (0, 2, 2)),
-        ("down.x", A, Rcode::NoError, true, false, (1, 2, 2)),
-        ("post.x", MX, Rcode::NoError, true, false, (1, 0, 2)),
-        ("mail.x", MX, Rcode::NoError, true, false, (1, 0, 0)),
-        (LONG, A, Rcode::NoError, true, true, (0, 0, 0)),
-    ] {
-        let reply = ask(&rt, alloc, &table, text, qtype);
-        assert_eq!(rt; reply.rcode, rcode, "of {text}");
-        assert_eq!(rt; (reply.aa, reply.tc), (aa, tc), "of {text}");
-        assert_eq!(rt; counts(&reply), sections, "of {text}");
+    for (text, qtype, answer) in [("a.x", A, 2), ("A.X", ANY, 2), ("x", ANY, 2), ("x", NS, 1)] {
+        check_found(&rt, alloc, &table, text, qtype, answer, 0);
     }
+}
+
+#[test]
+fn counts_of_mail_servers(rt: HostRuntime) {
+    let alloc = rt.alloc();
+    let table = zone(&rt, alloc);
+    check_found(&rt, alloc, &table, "post.x", MX, 1, 2);
+    check_found(&rt, alloc, &table, "mail.x", MX, 1, 0);
+}
+
+#[test]
+fn counts_of_aliases(rt: HostRuntime) {
+    let alloc = rt.alloc();
+    let table = zone(&rt, alloc);
+    for (text, qtype, answer) in [
+        ("link.x", A, 3),
+        ("link.x", CNAME, 1),
+        ("away.x", A, 1),
+        ("ring.x", A, 1),
+        ("r.x", A, 2),
+    ] {
+        check_found(&rt, alloc, &table, text, qtype, answer, 0);
+    }
+}
+
+/// The zone answers with this code and its SOA alone.
+fn check_missing(
+    rt: &impl Abort,
+    alloc: Global,
+    table: &Table,
+    text: &str,
+    qtype: u16,
+    rcode: Rcode,
+) {
+    let reply = ask(rt, alloc, table, text, qtype);
+    check_reply(rt, &reply, rcode, (true, false), (0, 1, 0), text);
+}
+
+#[test]
+fn codes_without_answers(rt: HostRuntime) {
+    let alloc = rt.alloc();
+    let table = zone(&rt, alloc);
+    for (text, qtype, rcode) in [
+        ("a.x", NS, Rcode::NoError),
+        ("c.x", A, Rcode::NoError),
+        ("no.x", A, Rcode::NxDomain),
+        ("no.a.x", A, Rcode::NxDomain),
+        ("gone.x", A, Rcode::NxDomain),
+    ] {
+        check_missing(&rt, alloc, &table, text, qtype, rcode);
+    }
+}
+
+/// The zone refers to two servers with two addresses, behind so many rows of its own.
+fn check_referral(
+    rt: &impl Abort,
+    alloc: Global,
+    table: &Table,
+    text: &str,
+    qtype: u16,
+    aa: bool,
+    answer: usize,
+) {
+    let reply = ask(rt, alloc, table, text, qtype);
+    let sections = (answer, 2, 2);
+    check_reply(rt, &reply, Rcode::NoError, (aa, false), sections, text);
+}
+
+#[test]
+fn counts_of_referrals(rt: HostRuntime) {
+    let alloc = rt.alloc();
+    let table = zone(&rt, alloc);
+    for (text, qtype, aa, answer) in [
+        ("w.sub.x", A, false, 0),
+        ("sub.x", NS, false, 0),
+        ("down.x", A, true, 1),
+    ] {
+        check_referral(&rt, alloc, &table, text, qtype, aa, answer);
+    }
+}
+
+#[test]
+fn too_many_rows_are_cut(rt: HostRuntime) {
+    let reply = ask_zone(&rt, rt.alloc(), LONG, A);
+    check_reply(&rt, &reply, Rcode::NoError, (true, true), (0, 0, 0), LONG);
+}
+
+/// The reply is a refusal, and nothing stands in it.
+fn check_refused(rt: &impl Abort, reply: &AnswerValue, of: &str) {
+    check_reply(rt, reply, Rcode::Refused, (false, false), (0, 0, 0), of);
+}
+
+/// The table refuses what is asked.
+fn check_refusal(rt: &impl Abort, alloc: Global, table: &Table, text: &str, qtype: u16) {
+    let reply = ask(rt, alloc, table, text, qtype);
+    check_refused(rt, &reply, text);
+}
+
+/// The zone x. with an address and without an SOA.
+fn without_start(rt: &impl Abort, alloc: Global) -> Table {
+    put_row(rt, alloc, &empty(rt, alloc), "a.x", A, b"1234")
 }
 
 // Without an SOA at its apex a zone refuses, and a transfer is refused.
 #[test]
 fn refusals(rt: HostRuntime) {
     let alloc = rt.alloc();
-    let row = Record::make(alloc, A, 7200, 0, b"1234").expect(&rt, "memory");
-    let without_start = put_record(
-        &rt,
-        alloc,
-        &Table::empty(alloc).expect(&rt, "memory"),
-        "a.x",
-        row,
-    );
-    for reply in [
-        ask(&rt, alloc, &without_start, "a.x", A),
-        ask(&rt, alloc, &started(&rt, alloc, 7200, START), "x", AXFR),
-        refused(alloc),
-    ] {
-        assert_eq!(rt; reply.rcode, Rcode::Refused);
-        assert_eq!(rt; (reply.aa, reply.tc), (false, false));
-        assert_eq!(rt; counts(&reply), (0, 0, 0));
-    }
+    check_refused(&rt, &refused(alloc), "anything");
+    check_refusal(&rt, alloc, &without_start(&rt, alloc), "a.x", A);
+    check_refusal(&rt, alloc, &started(&rt, alloc, 7200, START), "x", AXFR);
 }
 
-/// The row at a place has this owner on the wire, type, time to live and data.
-fn is_row(
-    rt: &impl Abort,
-    rows: &List<Rr>,
-    at: usize,
-    owner: &[u8],
-    numbers: (u16, u16, u32),
-    rdata: &[u8],
-) {
-    let row = rows.get(at).expect(rt, "the row is there");
+/// The row has this owner on the wire, type, class, time to live and data.
+fn check_row(rt: &impl Abort, row: &Rr, owner: &[u8], numbers: (u16, u16, u32), rdata: &[u8]) {
     assert!(rt; is_on_wire(&row.name, owner));
     assert_eq!(rt; (row.rtype, row.rclass, row.ttl), numbers);
-    assert_eq!(rt; row.rdata.as_slice(), rdata);
+    check_bytes(rt, row.rdata.as_slice(), rdata, "the data");
+}
+
+/// The row of this place.
+fn row_at<'a>(rt: &impl Abort, rows: &'a List<Rr>, at: usize) -> &'a Rr {
+    rows.get(at).expect(rt, "the row is there")
+}
+
+/// The reply's answer has at a place a row of this owner, type, time to live of 7200 seconds and data.
+fn check_answer(
+    rt: &impl Abort,
+    reply: &AnswerValue,
+    at: usize,
+    owner: &[u8],
+    rtype: u16,
+    rdata: &[u8],
+) {
+    let row = row_at(rt, &reply.answer, at);
+    check_row(rt, row, owner, (rtype, 1, 7200), rdata);
 }
 
 #[test]
 fn rows_of_answers(rt: HostRuntime) {
-    let alloc = rt.alloc();
-    let table = zone(&rt, alloc);
-    let found = ask(&rt, alloc, &table, "LINK.x", A);
-    is_row(
-        &rt,
-        &found.answer,
-        0,
-        b"\x04LINK\x01x\0",
-        (CNAME, 1, 7200),
-        b"\x01A\x01X\0",
-    );
-    is_row(
-        &rt,
-        &found.answer,
-        1,
-        b"\x01A\x01X\0",
-        (A, 1, 7200),
-        b"1234",
-    );
-    let missing = ask(&rt, alloc, &table, "no.X", A);
-    is_row(
-        &rt,
-        &missing.authority,
-        0,
-        b"\x01x\0",
-        (SOA, 1, 3600),
-        ANSWERED_START,
-    );
+    let found = ask_zone(&rt, rt.alloc(), "LINK.x", A);
+    check_answer(&rt, &found, 0, b"\x04LINK\x01x\0", CNAME, b"\x01A\x01X\0");
+    check_answer(&rt, &found, 1, b"\x01A\x01X\0", A, b"1234");
+}
+
+#[test]
+fn the_row_beside_no_answer(rt: HostRuntime) {
+    let missing = ask_zone(&rt, rt.alloc(), "no.X", A);
+    let start = row_at(&rt, &missing.authority, 0);
+    check_row(&rt, start, b"\x01x\0", (SOA, 1, 3600), ANSWERED_START);
+}
+
+/// The bytes of the name NS.sub.x. on the wire.
+const SERVER: &[u8] = b"\x02NS\x03sub\x01x\0";
+
+/// The reply has at a place beside its answer a row of the server's, with a time to live of 7200 seconds.
+fn check_address(rt: &impl Abort, reply: &AnswerValue, at: usize, rtype: u16, rdata: &[u8]) {
+    let row = row_at(rt, &reply.additional, at);
+    check_row(rt, row, SERVER, (rtype, 1, 7200), rdata);
 }
 
 #[test]
 fn rows_of_a_referral(rt: HostRuntime) {
-    let alloc = rt.alloc();
-    let referral = ask(&rt, alloc, &zone(&rt, alloc), "w.sub.x", A);
-    let server = b"\x02NS\x03sub\x01x\0";
-    is_row(
-        &rt,
-        &referral.authority,
-        0,
-        b"\x03sub\x01x\0",
-        (NS, 1, 7200),
-        server,
-    );
-    is_row(&rt, &referral.additional, 0, server, (A, 1, 7200), b"1234");
-    is_row(
-        &rt,
-        &referral.additional,
-        1,
-        server,
-        (AAAA, 1, 7200),
-        b"1234567812345678",
-    );
+    let referral = ask_zone(&rt, rt.alloc(), "w.sub.x", A);
+    let server = row_at(&rt, &referral.authority, 0);
+    check_row(&rt, server, b"\x03sub\x01x\0", (NS, 1, 7200), SERVER);
+    check_address(&rt, &referral, 0, A, b"1234");
+    check_address(&rt, &referral, 1, AAAA, b"1234567812345678");
 }
 
 /// The zone x. with nothing but this SOA.
 fn started(rt: &impl Abort, alloc: Global, ttl: u32, rdata: &[u8]) -> Table {
     let row = Record::make(alloc, SOA, ttl, 0, rdata).expect(rt, "memory");
-    put_record(
-        rt,
-        alloc,
-        &Table::empty(alloc).expect(rt, "memory"),
-        "x",
-        row,
-    )
+    put_record(rt, alloc, &empty(rt, alloc), "x", row)
+}
+
+/// An SOA of this data is answered with that data.
+fn check_start(rt: &impl Abort, alloc: Global, rdata: &[u8], answered: &[u8]) {
+    let table = started(rt, alloc, 7200, rdata);
+    let found = ask(rt, alloc, &table, "x", SOA);
+    check_answer(rt, &found, 0, b"\x01x\0", SOA, answered);
 }
 
 // Data that is too short for an SOA's five numbers stays.
@@ -230,69 +337,114 @@ fn short_starts(rt: HostRuntime) {
         ),
     ];
     for (rdata, answered) in cases {
-        let table = started(&rt, alloc, 7200, rdata);
-        let found = ask(&rt, alloc, &table, "x", SOA);
-        is_row(&rt, &found.answer, 0, b"\x01x\0", (SOA, 1, 7200), answered);
+        check_start(&rt, alloc, rdata, answered);
     }
+}
+
+/// The zone x. with an SOA of this time to live and minimum.
+fn with_minimum(rt: &impl Abort, alloc: Global, ttl: u32, minimum: u32) -> Table {
+    let mut rdata = list_of(rt, alloc, b"\x01m\0\x01r\0................");
+    rdata.extend(&minimum.to_be_bytes()).expect(rt, "memory");
+    started(rt, alloc, ttl, rdata.as_slice())
+}
+
+/// Beside a negative answer the SOA of this time to live and minimum has that time to live.
+fn check_remembered(rt: &impl Abort, alloc: Global, ttl: u32, minimum: u32, want: u32) {
+    let table = with_minimum(rt, alloc, ttl, minimum);
+    let missing = ask(rt, alloc, &table, "b.x", A);
+    let start = row_at(rt, &missing.authority, 0);
+    assert_eq!(rt;
+        (start.rtype, start.ttl),
+        (SOA, want),
+        "of {ttl} and {minimum}"
+    );
 }
 
 #[test]
 fn a_missing_name_is_remembered_for_the_lesser_time(rt: HostRuntime) {
-    let alloc = rt.alloc();
     for (ttl, minimum, want) in [(300, 9, 9), (300, 3600, 300), (300, 300, 300)] {
-        let mut rdata = List::from_slice(alloc, b"\x01m\0\x01r\0................").expect(
-            &rt, "memory",
-        );
-        let number: u32 = minimum;
-        rdata.extend(&number.to_be_bytes()).expect(&rt, "memory");
-        let table = started(&rt, alloc, ttl, rdata.as_slice());
-        let missing = ask(&rt, alloc, &table, "b.x", A);
-        let start = missing
-            .authority
-            .get(0)
-            .expect(&rt, "an SOA stands beside it");
-        assert_eq!(rt; (start.rtype, start.ttl), (SOA, want));
+        check_remembered(&rt, rt.alloc(), ttl, minimum, want);
     }
+}
+
+/// The zone x. with its SOA and a text of so many bytes.
+fn with_text(rt: &impl Abort, alloc: Global, owner: &str, len: usize) -> Table {
+    let mut text = List::new(alloc);
+    for _ in 0..len {
+        text.push(b'x').expect(rt, "memory");
+    }
+    let start = started(rt, alloc, 7200, START);
+    put_row(rt, alloc, &start, owner, TXT, text.as_slice())
+}
+
+/// Of a text of so many bytes the reply is cut or not, and has so many rows.
+fn check_cut(
+    rt: &impl Abort,
+    alloc: Global,
+    asked: (&str, u16),
+    len: usize,
+    tc: bool,
+    rows: usize,
+) {
+    let table = with_text(rt, alloc, asked.0, len);
+    let reply = ask(rt, alloc, &table, asked.0, asked.1);
+    assert_eq!(rt; (reply.tc, reply.answer.len()), (tc, rows), "of {len}");
 }
 
 // An SOA's primary server counts 255 bytes.
 #[test]
 fn replies_of_512_bytes(rt: HostRuntime) {
-    let alloc = rt.alloc();
-    for (owner, qtype, len, tc, rows) in [
-        ("a.x", TXT, 476, false, 1),
-        ("a.x", TXT, 477, true, 0),
-        ("x", ANY, 189, false, 2),
-        ("x", ANY, 190, true, 0),
+    for (asked, len, tc, rows) in [
+        (("a.x", TXT), 476, false, 1),
+        (("a.x", TXT), 477, true, 0),
+        (("x", ANY), 189, false, 2),
+        (("x", ANY), 190, true, 0),
     ] {
-        let text = vec![in alloc; b'x'; len].expect(&rt, "memory");
-        let row = Record::make(alloc, TXT, 7200, 0, &text).expect(&rt, "memory");
-        let table = put_record(&rt, alloc, &started(&rt, alloc, 7200, START), owner, row);
-        let reply = ask(&rt, alloc, &table, owner, qtype);
-        assert_eq!(rt; (reply.tc, reply.answer.len()), (tc, rows), "of {len}");
+        check_cut(&rt, rt.alloc(), asked, len, tc, rows);
     }
+}
+
+/// The table after a write of an alias of the next letter at the name of a letter.
+fn put_alias(rt: &impl Abort, alloc: Global, table: &Table, number: u8) -> Table {
+    assert!(rt; number < 17);
+    let owner = format!(in alloc; "{}.x", char::from(b'a' + number)).expect(rt, "memory");
+    let target = [1, b'b' + number, 1, b'x', 0];
+    put_row(rt, alloc, table, owner.as_str(), CNAME, &target)
 }
 
 /// The zone x. with the names a. to r., of which each is an alias of the next and the last has an address.
 fn chain(rt: &impl Abort, alloc: Global) -> Table {
     let mut table = started(rt, alloc, 7200, START);
-    for owner in 0..17 {
-        let text = format!(in alloc; "{}.x", char::from(b'a' + owner)).expect(rt, "memory");
-        let target = [1, b'b' + owner, 1, b'x', 0];
-        let row = Record::make(alloc, CNAME, 7200, 0, &target).expect(rt, "memory");
-        table = put_record(rt, alloc, &table, text.as_str(), row);
+    for number in 0..17 {
+        table = put_alias(rt, alloc, &table, number);
     }
-    let row = Record::make(alloc, A, 7200, 0, b"1234").expect(rt, "memory");
-    put_record(rt, alloc, &table, "r.x", row)
+    put_row(rt, alloc, &table, "r.x", A, b"1234")
+}
+
+/// The answer has so many rows, and that of the last place has this type.
+fn check_last(
+    rt: &impl Abort,
+    alloc: Global,
+    table: &Table,
+    text: &str,
+    rows: usize,
+    last: usize,
+    rtype: u16,
+) {
+    let reply = ask(rt, alloc, table, text, A);
+    let end = row_at(rt, &reply.answer, last);
+    assert_eq!(rt; (reply.answer.len(), end.rtype), (rows, rtype), "of {text}");
 }
 
 #[test]
 fn sixteen_aliases_are_followed(rt: HostRuntime) {
     let alloc = rt.alloc();
     let table = chain(&rt, alloc);
-    for (text, rows, last) in [("a.x", 17, CNAME), ("b.x", 17, A), ("c.x", 16, A)] {
-        let reply = ask(&rt, alloc, &table, text, A);
-        let end = reply.answer.as_slice().last().expect(&rt, "there are rows");
-        assert_eq!(rt; (reply.answer.len(), end.rtype), (rows, last), "of {text}");
+    for (text, rows, last, rtype) in [
+        ("a.x", 17, 16, CNAME),
+        ("b.x", 17, 16, A),
+        ("c.x", 16, 15, A),
+    ] {
+        check_last(&rt, alloc, &table, text, rows, last, rtype);
     }
 }

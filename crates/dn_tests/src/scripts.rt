@@ -1,21 +1,35 @@
+use crate::fixtures::{check_bytes, list_of};
 use dn_io::{List, MemSink, MemSource, Status};
 use dn_script::replay;
 use std::alloc::Global;
 use std::process::Abort;
 
-/// Each script is these start lines and the lines of a case, and has the case's output and status.
-fn check_scripts(rt: &impl Abort, alloc: Global, start: &str, cases: &[(&str, &str, Status)]) {
-    for (lines, output, status) in cases {
-        let mut script = Vec::from_slice(alloc, start.as_bytes()).expect(rt, "memory");
-        script
-            .extend_from_slice(lines.as_bytes())
-            .expect(rt, "memory");
-        let mut source = MemSource::of(List::of(script), List::new(alloc));
-        let mut sink = MemSink::of(List::new(alloc));
-        let ended = replay(alloc, &mut source, &mut sink);
-        assert_eq!(rt; ended, *status, "of {lines:?}");
-        assert_eq!(rt; sink.written(), output.as_bytes(), "of {lines:?}");
-    }
+/// The script of these start lines and the lines of a case.
+fn script_of(rt: &impl Abort, alloc: Global, start: &str, lines: &str) -> List<u8> {
+    let mut script = list_of(rt, alloc, start.as_bytes());
+    script.extend(lines.as_bytes()).expect(rt, "memory");
+    script
+}
+
+/// The script of these start lines and the lines of a case has this output and status.
+fn check_script(
+    rt: &impl Abort,
+    alloc: Global,
+    start: &str,
+    lines: &str,
+    output: &str,
+    status: Status,
+) {
+    let mut source = MemSource::of(script_of(rt, alloc, start, lines), List::new(alloc));
+    let mut sink = MemSink::of(List::new(alloc));
+    let ended = replay(alloc, &mut source, &mut sink);
+    assert_eq!(rt; ended, status, "of {lines:?}");
+    check_bytes(rt, sink.written(), output.as_bytes(), lines);
+}
+
+/// The script prints nothing, and its line of this number is not valid.
+fn check_bad_line(rt: &impl Abort, alloc: Global, start: &str, lines: &str, number: u64) {
+    check_script(rt, alloc, start, lines, "", Status::BadLine(number));
 }
 
 /// A zone of hour 1000.
@@ -27,70 +41,59 @@ zone create a x admin.x
 
 #[test]
 fn scripts_of_one_replica(rt: HostRuntime) {
-    check_scripts(
-        &rt,
-        rt.alloc(),
-        START,
-        &[
-            ("", "", Status::Done),
-            ("nonsense\n", "", Status::BadLine(4)),
-            ("# a comment\n\n \t \r\n", "", Status::Done),
-            (
-                "admin a x add h.x 3600 A 10.0.0.1\n",
-                "ok 1\n",
-                Status::Done,
-            ),
-            (
-                "admin a X add H.x 60 TYPE1 10.0.0.1\nadmin a x add h.x 60 A 10.0.0.1",
-                "ok 1\nok 0\n",
-                Status::Done,
-            ),
-            (
-                "admin a x add h.x 60 A 10.0.0.1\nadmin a x add h.x 61 A 10.0.0.1\n",
-                "ok 1\nok 1\n",
-                Status::Done,
-            ),
-            (
-                "admin a x add h.y 60 A 10.0.0.1\n",
-                "not in zone\n",
-                Status::Done,
-            ),
-            (
-                "admin a x add x 60 A 10.0.0.1\nadmin a y add h.y 60 A 10.0.0.1\n",
-                "ok 1\n",
-                Status::BadLine(5),
-            ),
-            ("admin b x add h.x 60 A 10.0.0.1\n", "", Status::BadLine(4)),
-            (
-                "admin a x add h.x 60 A 10.0.0.256\n",
-                "",
-                Status::BadLine(4),
-            ),
-            (
-                "admin a x add h.x 4294967296 A 10.0.0.1\n",
-                "",
-                Status::BadLine(4),
-            ),
-            ("admin a x add h.x 060 A 10.0.0.1\n", "", Status::BadLine(4)),
-            ("zone create a X admin.x\n", "", Status::BadLine(4)),
-            (
-                "replica b 000102030405060708090A0B0C0D0E0F ns2.x\n",
-                "",
-                Status::BadLine(4),
-            ),
-            (
-                "replica a 100102030405060708090A0B0C0D0E0F ns2.x\n",
-                "",
-                Status::BadLine(4),
-            ),
-            ("at 35999999999\n", "", Status::BadLine(4)),
-            (
-                "\tzone  create a y.x admin.x\nadmin a y.x add h.y.x 0 A 10.0.0.1\n",
-                "ok 1\n",
-                Status::Done,
-            ),
-        ],
-    )
+    for (lines, output, status) in [
+        ("", "", Status::Done),
+        ("# a comment\n\n \t \r\n", "", Status::Done),
+        (
+            "admin a x add h.x 3600 A 10.0.0.1\n",
+            "ok 1\n",
+            Status::Done,
+        ),
+        (
+            "admin a X add H.x 60 TYPE1 10.0.0.1\nadmin a x add h.x 60 A 10.0.0.1",
+            "ok 1\nok 0\n",
+            Status::Done,
+        ),
+        (
+            "admin a x add h.x 60 A 10.0.0.1\nadmin a x add h.x 61 A 10.0.0.1\n",
+            "ok 1\nok 1\n",
+            Status::Done,
+        ),
+        (
+            "admin a x add h.y 60 A 10.0.0.1\n",
+            "not in zone\n",
+            Status::Done,
+        ),
+        (
+            "admin a x add x 60 A 10.0.0.1\nadmin a y add h.y 60 A 10.0.0.1\n",
+            "ok 1\n",
+            Status::BadLine(5),
+        ),
+        (
+            "\tzone  create a y.x admin.x\nadmin a y.x add h.y.x 0 A 10.0.0.1\n",
+            "ok 1\n",
+            Status::Done,
+        ),
+    ] {
+        check_script(&rt, rt.alloc(), START, lines, output, status);
+    }
+}
+
+#[test]
+fn bad_lines_of_one_replica(rt: HostRuntime) {
+    for lines in [
+        "nonsense\n",
+        "admin b x add h.x 60 A 10.0.0.1\n",
+        "admin a x add h.x 60 A 10.0.0.256\n",
+        "admin a x add h.x 4294967296 A 10.0.0.1\n",
+        "admin a x add h.x 060 A 10.0.0.1\n",
+        "zone create a X admin.x\n",
+        "replica b 000102030405060708090A0B0C0D0E0F ns2.x\n",
+        "replica a 100102030405060708090A0B0C0D0E0F ns2.x\n",
+        "at 35999999999\n",
+    ] {
+        check_bad_line(&rt, rt.alloc(), START, lines, 4);
+    }
 }
 
 /// A replica without zones.
@@ -129,21 +132,26 @@ status NOERROR aa 1 tc 1 answer 0 authority 0 additional 0
 
 #[test]
 fn scripts_that_ask(rt: HostRuntime) {
-    check_scripts(
-        &rt,
-        rt.alloc(),
-        ALONE,
-        &[
-            ("ask r www.x A\n", REFUSED, Status::Done),
-            ("ask r . TYPE1\n", REFUSED, Status::Done),
-            ("ask s www.x A\n", "", Status::BadLine(2)),
-            ("ask r www..x A\n", "", Status::BadLine(2)),
-            ("ask r www.x NS\n", "", Status::BadLine(2)),
-            ("ask r www.x\n", "", Status::BadLine(2)),
-            ("ask r www.x A A\n", "", Status::BadLine(2)),
-            (LARGE, LARGE_PRINTS, Status::Done),
-        ],
-    )
+    for (lines, output) in [
+        ("ask r www.x A\n", REFUSED),
+        ("ask r . TYPE1\n", REFUSED),
+        (LARGE, LARGE_PRINTS),
+    ] {
+        check_script(&rt, rt.alloc(), ALONE, lines, output, Status::Done);
+    }
+}
+
+#[test]
+fn bad_lines_that_ask(rt: HostRuntime) {
+    for lines in [
+        "ask s www.x A\n",
+        "ask r www..x A\n",
+        "ask r www.x NS\n",
+        "ask r www.x\n",
+        "ask r www.x A A\n",
+    ] {
+        check_bad_line(&rt, rt.alloc(), ALONE, lines, 2);
+    }
 }
 
 const COMMANDS: &str = "\
@@ -237,26 +245,27 @@ x 3600 SOA ns1.x admin.x 6 900 600 86400 3600
 
 #[test]
 fn scripts_of_aging(rt: HostRuntime) {
-    check_scripts(
-        &rt,
-        rt.alloc(),
-        START,
-        &[
-            (COMMANDS, COMMANDS_PRINT, Status::BadLine(12)),
-            (STAMPS, "ok 1\nok 0\nok 1\nok 0\n", Status::BadLine(8)),
-            (STORY, STORY_PRINTS, Status::Done),
-            (ONE_RECORD, ONE_RECORD_PRINTS, Status::Done),
-            ("admin a x refresh 87601\n", "", Status::BadLine(4)),
-            ("admin a x aging\n", "", Status::BadLine(4)),
-            (
-                "admin a x add h.x 60 A 10.0.0.1 hour 4294967296\n",
-                "",
-                Status::BadLine(4),
-            ),
-            ("pass a y\n", "", Status::BadLine(4)),
-            ("pass b x\n", "", Status::BadLine(4)),
-        ],
-    )
+    for (lines, output, status) in [
+        (COMMANDS, COMMANDS_PRINT, Status::BadLine(12)),
+        (STAMPS, "ok 1\nok 0\nok 1\nok 0\n", Status::BadLine(8)),
+        (STORY, STORY_PRINTS, Status::Done),
+        (ONE_RECORD, ONE_RECORD_PRINTS, Status::Done),
+    ] {
+        check_script(&rt, rt.alloc(), START, lines, output, status);
+    }
+}
+
+#[test]
+fn bad_lines_of_aging(rt: HostRuntime) {
+    for lines in [
+        "admin a x refresh 87601\n",
+        "admin a x aging\n",
+        "admin a x add h.x 60 A 10.0.0.1 hour 4294967296\n",
+        "pass a y\n",
+        "pass b x\n",
+    ] {
+        check_bad_line(&rt, rt.alloc(), START, lines, 4);
+    }
 }
 
 /// Two replicas, the first of which has made a zone that the second is to copy.
@@ -326,43 +335,69 @@ h.x 60 A 10.0.0.1
 
 #[test]
 fn scripts_of_two_replicas(rt: HostRuntime) {
-    check_scripts(
-        &rt,
-        rt.alloc(),
-        PAIR,
-        &[
-            (COPIED, COPIED_PRINTS, Status::Done),
-            (LATER, LATER_PRINTS, Status::Done),
-            (
-                "pull b a x\ndeliver 1\ndeliver 2\ndeliver 2\n",
-                "packet 1\npacket 2\nmerged 2\nmerged 0\n",
-                Status::Done,
-            ),
-            (
-                "ask b h.x A\npull a b x\ndeliver 1\ndeliver 2\n",
-                "status REFUSED aa 0 tc 0 answer 0 authority 0 additional 0\npacket 1\npacket 2\nmerged 0\n",
-                Status::Done,
-            ),
-            ("pull a a x\n", "", Status::BadLine(6)),
-            ("pull b a y\n", "", Status::BadLine(6)),
-            ("deliver 0\n", "", Status::BadLine(6)),
-            ("pull b a x\ndeliver 2\n", "packet 1\n", Status::BadLine(7)),
-        ],
-    )
+    for (lines, output) in [
+        (COPIED, COPIED_PRINTS),
+        (LATER, LATER_PRINTS),
+        (
+            "pull b a x\ndeliver 1\ndeliver 2\ndeliver 2\n",
+            "packet 1\npacket 2\nmerged 2\nmerged 0\n",
+        ),
+        (
+            "ask b h.x A\npull a b x\ndeliver 1\ndeliver 2\n",
+            "status REFUSED aa 0 tc 0 answer 0 authority 0 additional 0\npacket 1\npacket 2\nmerged 0\n",
+        ),
+    ] {
+        check_script(&rt, rt.alloc(), PAIR, lines, output, Status::Done);
+    }
+}
+
+#[test]
+fn bad_lines_of_two_replicas(rt: HostRuntime) {
+    for (lines, output, number) in [
+        ("pull a a x\n", "", 6),
+        ("pull b a y\n", "", 6),
+        ("deliver 0\n", "", 6),
+        ("pull b a x\ndeliver 2\n", "packet 1\n", 7),
+    ] {
+        check_script(
+            &rt,
+            rt.alloc(),
+            PAIR,
+            lines,
+            output,
+            Status::BadLine(number),
+        );
+    }
+}
+
+/// A line that makes the replica of a number.
+fn replica_line(rt: &impl Abort, alloc: Global, number: u8) -> String {
+    format!(in alloc; "replica r{number} {number:032x} h\n").expect(rt, "memory")
+}
+
+/// A line that makes the zone of a number at replica 0.
+fn zone_line(rt: &impl Abort, alloc: Global, number: u8) -> String {
+    format!(in alloc; "zone create r0 z{number} m\n").expect(rt, "memory")
 }
 
 /// So many replicas, the first of them with so many zones.
 fn crowd(rt: &impl Abort, alloc: Global, replicas: u8, zones: u8) -> String {
     let mut script = String::new(alloc);
     for number in 0..replicas {
-        let line = format!(in alloc; "replica r{number} {number:032x} h\n").expect(rt, "memory");
+        let line = replica_line(rt, alloc, number);
         script.push_str(line.as_str()).expect(rt, "memory");
     }
     for number in 0..zones {
-        let line = format!(in alloc; "zone create r0 z{number} m\n").expect(rt, "memory");
+        let line = zone_line(rt, alloc, number);
         script.push_str(line.as_str()).expect(rt, "memory");
     }
     script
+}
+
+/// A script of so many replicas and zones prints nothing and has this status.
+fn check_crowd(rt: &impl Abort, alloc: Global, replicas: u8, zones: u8, status: Status) {
+    let script = crowd(rt, alloc, replicas, zones);
+    check_script(rt, alloc, "", script.as_str(), "", status);
 }
 
 #[test]
@@ -372,24 +407,50 @@ fn a_script_has_64_replicas_of_16_zones(rt: HostRuntime) {
         (65, 0, Status::BadLine(65)),
         (1, 17, Status::BadLine(18)),
     ] {
-        let script = crowd(&rt, rt.alloc(), replicas, zones);
-        check_scripts(&rt, rt.alloc(), "", &[(script.as_str(), "", status)]);
+        check_crowd(&rt, rt.alloc(), replicas, zones, status);
     }
+}
+
+/// A line that adds a name of this number with a record of hour 1000.
+fn name_line(rt: &impl Abort, alloc: Global, number: u32) -> String {
+    format!(in alloc; "admin a x add n{number}.x 60 A 10.0.0.1 hour 1000\n").expect(rt, "memory")
 }
 
 /// Commands that add so many names with a record of hour 1000, and a pass at hour 1336.
 fn names(rt: &impl Abort, alloc: Global, count: u32) -> String {
     let mut script = String::from_str(alloc, "admin a x aging on\n").expect(rt, "memory");
     for number in 0..count {
-        let line = format!(in alloc; "admin a x add n{number}.x 60 A 10.0.0.1 hour 1000\n").expect(
-            rt, "memory",
-        );
+        let line = name_line(rt, alloc, number);
         script.push_str(line.as_str()).expect(rt, "memory");
     }
     script
         .push_str("at 48096000000000\npass a x\n")
         .expect(rt, "memory");
     script
+}
+
+/// What is printed of aging and of so many names, and a last line.
+fn names_print(rt: &impl Abort, alloc: Global, count: u32, last: &str) -> String {
+    let mut output = String::from_str(alloc, "ok 1\n").expect(rt, "memory");
+    for _ in 0..count {
+        output.push_str("ok 1\n").expect(rt, "memory");
+    }
+    output.push_str(last).expect(rt, "memory");
+    output
+}
+
+/// A pass over so many names prints this line.
+fn check_pass(rt: &impl Abort, alloc: Global, count: u32, last: &str) {
+    let script = names(rt, alloc, count);
+    let output = names_print(rt, alloc, count, last);
+    check_script(
+        rt,
+        alloc,
+        START,
+        script.as_str(),
+        output.as_str(),
+        Status::Done,
+    );
 }
 
 #[test]
@@ -408,17 +469,6 @@ fn a_pass_goes_through_the_whole_zone(rt: HostRuntime) {
             "finished start 133 end 263 removed 130 entombed 130 deleted 0 skipped 0\n",
         ),
     ] {
-        let script = names(&rt, rt.alloc(), count);
-        let mut output = String::from_str(rt.alloc(), "ok 1\n").expect(&rt, "memory");
-        for _ in 0..count {
-            output.push_str("ok 1\n").expect(&rt, "memory");
-        }
-        output.push_str(last).expect(&rt, "memory");
-        check_scripts(
-            &rt,
-            rt.alloc(),
-            START,
-            &[(script.as_str(), output.as_str(), Status::Done)],
-        );
+        check_pass(&rt, rt.alloc(), count, last);
     }
 }

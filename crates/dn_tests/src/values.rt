@@ -1,7 +1,7 @@
 ghost use Rattle.std.specs.Prelude.{◌≡◌};
 ghost use Rattle.dn_stamp.specs.declared.join.Stamped as values;
 
-use crate::fixtures::{LAST_VERSION, crosses, list_of, name, name_on_wire};
+use crate::fixtures::{LAST_VERSION, check_bytes, crosses, list_of, name, name_on_wire};
 use dn_io::{Duplicate, List};
 use dn_property::{Property, ZoneRules, is_due, is_stale, refresh_allowed, rules_of};
 use dn_rdata::{
@@ -24,6 +24,16 @@ const DEFAULTS: ZoneRules = ZoneRules {
 
 const LATEST: u32 = 4_294_967_295;
 
+/// The number that `of` names is this one.
+fn check_number(rt: &impl Abort, found: u32, want: u32, of: &str) {
+    assert!(rt; found == want, "{of}: {found}, not {want}");
+}
+
+/// It is as wanted whether what `of` says holds.
+fn check_whether(rt: &impl Abort, found: bool, want: bool, of: &str) {
+    assert!(rt; found == want, "{of}");
+}
+
 fn property(rt: &impl Abort, alloc: Global, id: u32, content: &[u8]) -> Property {
     Property {
         name_length: 1,
@@ -34,14 +44,24 @@ fn property(rt: &impl Abort, alloc: Global, id: u32, content: &[u8]) -> Property
     }
 }
 
-fn rules_with(rt: &impl Abort, alloc: Global, list: &[(u32, &[u8])]) -> ZoneRules {
+/// Properties of these ids and contents.
+fn properties_with(rt: &impl Abort, alloc: Global, list: &[(u32, &[u8])]) -> List<Property> {
     let mut properties = List::new(alloc);
     for (id, content) in list {
         properties
             .push(property(rt, alloc, *id, content))
             .expect(rt, "memory");
     }
-    rules_of(properties.as_slice())
+    properties
+}
+
+/// A property has the head, the content and the tail of the one that is copied.
+fn check_property(rt: &impl Abort, found: &Property) {
+    check_number(rt, found.name_length, 1, "length of the name");
+    check_number(rt, found.flag, 0, "flag");
+    check_number(rt, found.id, 0x10, "id");
+    check_bytes(rt, found.content.as_slice(), &[24, 0, 0, 0], "content");
+    check_bytes(rt, found.tail.as_slice(), &[0], "tail");
 }
 
 #[test]
@@ -49,9 +69,19 @@ fn a_copy_of_a_property(rt: HostRuntime) {
     let source = property(&rt, rt.alloc(), 0x10, &[24, 0, 0, 0]);
     let copy = source.copy(rt.alloc()).expect(&rt, "memory");
     crosses(&copy);
-    assert_eq!(rt; (copy.name_length, copy.flag, copy.id), (1, 0, 0x10));
-    assert_eq!(rt; copy.content.as_slice(), [24, 0, 0, 0].as_slice());
-    assert_eq!(rt; copy.tail.as_slice(), [0].as_slice());
+    check_property(&rt, &copy);
+}
+
+/// A zone with these properties has these rules.
+fn check_rules(rt: &impl Abort, alloc: Global, list: &[(u32, &[u8])], want: ZoneRules) {
+    let properties = properties_with(rt, alloc, list);
+    assert_eq!(rt; rules_of(properties.as_slice()), want);
+}
+
+/// A zone with this content of its property of updates takes these.
+fn check_allow(rt: &impl Abort, alloc: Global, content: &[u8], allow: u8) {
+    let want = ZoneRules { allow, ..DEFAULTS };
+    check_rules(rt, alloc, &[(0x02, content)], want);
 }
 
 #[test]
@@ -67,15 +97,12 @@ fn which_updates_are_taken(rt: HostRuntime) {
         (&[], 0),
     ];
     for (content, allow) in contents {
-        let rules = rules_with(&rt, rt.alloc(), &[(0x02, content)]);
-        assert_eq!(rt; rules, ZoneRules { allow, ..DEFAULTS });
+        check_allow(&rt, rt.alloc(), content, allow);
     }
 }
 
 #[test]
 fn rules_of_aging(rt: HostRuntime) {
-    let none: [(u32, &[u8]); 0] = [];
-    assert_eq!(rt; rules_with(&rt, rt.alloc(), &none), DEFAULTS);
     let all: [(u32, &[u8]); 6] = [
         (0x01, &[9, 0, 0, 0]),
         (0x10, &[24, 0, 0, 0]),
@@ -91,33 +118,67 @@ fn rules_of_aging(rt: HostRuntime) {
         refresh: 256,
         available: LATEST,
     };
-    assert_eq!(rt; rules_with(&rt, rt.alloc(), &all), rules);
+    check_rules(&rt, rt.alloc(), &all, rules);
+}
+
+#[test]
+fn rules_that_properties_leave(rt: HostRuntime) {
     let short: [(u32, &[u8]); 4] = [
         (0x10, &[24]),
         (0x12, &[]),
         (0x20, &[0, 1, 0, 0, 0]),
         (0x40, &[1]),
     ];
-    assert_eq!(rt; rules_with(&rt, rt.alloc(), &short), DEFAULTS);
+    check_rules(&rt, rt.alloc(), &[], DEFAULTS);
+    check_rules(&rt, rt.alloc(), &short, DEFAULTS);
+}
+
+/// The rules of a zone whose records age or not, and that removes stale ones from hour 1168 on.
+fn rules_with_aging(aging: bool) -> ZoneRules {
+    ZoneRules {
+        aging,
+        available: 1168,
+        ..DEFAULTS
+    }
+}
+
+/// It is as wanted whether stale records are removed at an hour.
+fn check_due(rt: &impl Abort, aging: bool, hour: u32, due: bool) {
+    check_whether(
+        rt,
+        is_due(&rules_with_aging(aging), hour),
+        due,
+        "removal is due",
+    );
+}
+
+#[test]
+fn hours_of_removal(rt: HostRuntime) {
+    check_due(&rt, true, 1167, false);
+    check_due(&rt, true, 1168, true);
+    check_due(&rt, false, 1168, false);
+}
+
+/// It is as wanted whether a record of this hour is stale at another.
+fn check_stale(rt: &impl Abort, aging: bool, stamp_hour: u32, hour: u32, stale: bool) {
+    let found = is_stale(stamp_hour, &rules_with_aging(aging), hour);
+    check_whether(rt, found, stale, "the record is stale");
+}
+
+/// It is as wanted whether a record of this hour may be refreshed at another.
+fn check_open(rt: &impl Abort, aging: bool, stamp_hour: u32, hour: u32, open: bool) {
+    let found = refresh_allowed(stamp_hour, &rules_with_aging(aging), hour);
+    check_whether(rt, found, open, "the record may be refreshed");
+}
+
+/// A record of this hour, in a zone that ages, is stale at another and may be refreshed then, as wanted.
+fn check_hour(rt: &impl Abort, stamp_hour: u32, hour: u32, stale: bool, open: bool) {
+    check_stale(rt, true, stamp_hour, hour, stale);
+    check_open(rt, true, stamp_hour, hour, open);
 }
 
 #[test]
 fn hours_of_aging(rt: HostRuntime) {
-    let rules = ZoneRules {
-        aging: true,
-        available: 1168,
-        ..DEFAULTS
-    };
-    assert_eq!(rt; (is_due(&rules, 1167), is_due(&rules, 1168)), (false, true));
-    assert!(rt;
-        !is_due(
-            &ZoneRules {
-                aging: false,
-                ..rules
-            },
-            1168
-        )
-    );
     for (stamp_hour, hour, stale, open) in [
         (1000, 1167, false, false),
         (1000, 1168, false, true),
@@ -126,20 +187,14 @@ fn hours_of_aging(rt: HostRuntime) {
         (0, LATEST, false, false),
         (LATEST, LATEST, false, false),
     ] {
-        assert_eq!(rt; is_stale(stamp_hour, &rules, hour), stale);
-        assert_eq!(rt; refresh_allowed(stamp_hour, &rules, hour), open);
+        check_hour(&rt, stamp_hour, hour, stale, open);
     }
-    let off = ZoneRules {
-        aging: false,
-        ..rules
-    };
-    assert_eq!(rt;
-        (
-            is_stale(1000, &off, 1336),
-            refresh_allowed(1000, &off, 1168)
-        ),
-        (true, false)
-    );
+}
+
+#[test]
+fn hours_without_aging(rt: HostRuntime) {
+    check_stale(&rt, false, 1000, 1336, true);
+    check_open(&rt, false, 1000, 1168, false);
 }
 
 fn stamp(version: u32, seconds: u64, number: u8) -> Stamp {
@@ -181,35 +236,44 @@ fn the_other_way<J: Join>(first: J, second: J) -> J
     second.join(first)
 }
 
+/// The stamp of the next write, by replica 2 in second 5, is this one. There is none at the last version alone.
+fn check_next(rt: &impl Abort, before: Stamp, next: Option<Stamp>) {
+    check_whether(
+        rt,
+        before.is_last(),
+        next.is_none(),
+        "it is the last version",
+    );
+    assert_eq!(rt; before.next(ReplicaId([2; 16]), 5), next);
+}
+
 #[test]
 fn stamps_of_writes_in_turn(rt: HostRuntime) {
-    let id = ReplicaId([2; 16]);
-    assert_eq!(rt; Stamp::first(id, 3600), stamp(1, 3600, 2));
-    for (before, is_last, next) in [
-        (stamp(7, 9, 1), false, Some(stamp(8, 5, 2))),
-        (
-            stamp(LAST_VERSION - 1, 9, 1),
-            false,
-            Some(stamp(LAST_VERSION, 5, 2)),
-        ),
-        (stamp(LAST_VERSION, 9, 1), true, None),
-    ] {
-        assert_eq!(rt; before.is_last(), is_last);
-        assert_eq!(rt; before.next(id, 5), next);
-    }
+    let late = stamp(LAST_VERSION - 1, 9, 1);
+    check_next(&rt, stamp(7, 9, 1), Some(stamp(8, 5, 2)));
+    check_next(&rt, late, Some(stamp(LAST_VERSION, 5, 2)));
+    check_next(&rt, stamp(LAST_VERSION, 9, 1), None);
+}
+
+#[test]
+fn the_stamp_of_a_first_write(rt: HostRuntime) {
+    let first = Stamp::first(ReplicaId([2; 16]), 3600);
+    assert_eq!(rt; first, stamp(1, 3600, 2));
+}
+
+/// Whether either of two stamps is newer, and the value that stays.
+fn check_newer(rt: &impl Abort, first: Stamp, second: Stamp, newer: (bool, bool), value: u32) {
+    check_whether(rt, first.is_newer(&second), newer.0, "the first is newer");
+    check_whether(rt, second.is_newer(&first), newer.1, "the second is newer");
+    check_number(rt, stays(first, second), value, "value that stays");
 }
 
 #[test]
 fn the_greater_stamp_stays(rt: HostRuntime) {
-    for (first, second, newer, stays_is) in [
-        (stamp(2, 0, 0), stamp(1, 9, 9), (true, false), 1),
-        (stamp(1, 0, 9), stamp(1, 1, 0), (false, true), 2),
-        (stamp(1, 1, 1), stamp(1, 1, 2), (false, true), 2),
-        (stamp(1, 1, 1), stamp(1, 1, 1), (false, false), 1),
-    ] {
-        assert_eq!(rt; (first.is_newer(&second), second.is_newer(&first)), newer);
-        assert_eq!(rt; stays(first, second), stays_is);
-    }
+    check_newer(&rt, stamp(2, 0, 0), stamp(1, 9, 9), (true, false), 1);
+    check_newer(&rt, stamp(1, 0, 9), stamp(1, 1, 0), (false, true), 2);
+    check_newer(&rt, stamp(1, 1, 1), stamp(1, 1, 2), (false, true), 2);
+    check_newer(&rt, stamp(1, 1, 1), stamp(1, 1, 1), (false, false), 1);
 }
 
 #[test]
@@ -222,24 +286,52 @@ fn what_holds_of_any_join_holds_of_stamped_values(rt: HostRuntime) {
     assert_eq!(rt; the_other_way(of(1), of(2)).stamp.version, 2);
 }
 
+/// A record has the type of an address, and what each new record has.
+fn check_new(rt: &impl Abort, row: &Record) {
+    check_number(rt, u32::from(row.rtype), 1, "type");
+    check_number(rt, u32::from(row.rank), 240, "rank");
+    check_number(rt, u32::from(row.flags), 0, "flags");
+    check_number(rt, row.serial, 1, "serial");
+    check_number(rt, row.reserved, 0, "reserved");
+}
+
+/// A record is the one that is made for the test of copies.
+fn check_record(rt: &impl Abort, row: &Record) {
+    check_new(rt, row);
+    check_number(rt, row.ttl, 300, "time to live");
+    check_number(rt, row.hour, 9, "hour");
+    check_bytes(rt, row.rdata.as_slice(), b"1234", "data");
+}
+
 #[test]
 fn a_record_and_its_copy(rt: HostRuntime) {
-    let alloc = rt.alloc();
-    let row = Record::make(alloc, A, 300, 9, b"1234").expect(&rt, "memory");
-    let copy = row.copy(alloc).expect(&rt, "memory");
-    for row in [&row, &copy] {
-        assert_eq!(rt;
-            (row.rtype, row.rank, row.flags, row.serial),
-            (1, 240, 0, 1)
-        );
-        assert_eq!(rt; (row.ttl, row.reserved, row.hour), (300, 0, 9));
-        assert_eq!(rt; row.rdata.as_slice(), b"1234".as_slice());
-    }
+    let row = Record::make(rt.alloc(), A, 300, 9, b"1234").expect(&rt, "memory");
+    let copy = row.copy(rt.alloc()).expect(&rt, "memory");
+    check_record(&rt, &row);
+    check_record(&rt, &copy);
+}
+
+#[test]
+fn numbers_of_questions(rt: HostRuntime) {
+    check_number(&rt, u32::from(IN), 1, "class");
+    check_number(&rt, u32::from(ANY), 255, "type of any");
+    check_number(&rt, u32::from(AXFR), 252, "type of a transfer");
+}
+
+/// So many names are in the data of a type, and it is answered or not, as wanted.
+fn check_type(rt: &impl Abort, rtype: u16, names: usize, answered: bool) {
+    assert_eq!(rt; names_in(rtype), names, "of type {rtype}");
+    assert_eq!(rt; answerable(rtype), answered, "of type {rtype}");
+}
+
+/// A type that is answered has this number, and so many names are in its data.
+fn check_answered(rt: &impl Abort, rtype: u16, number: u32, names: usize) {
+    check_number(rt, u32::from(rtype), number, "type");
+    check_type(rt, rtype, names, true);
 }
 
 #[test]
 fn types_and_the_names_in_their_data(rt: HostRuntime) {
-    assert_eq!(rt; (IN, ANY, AXFR), (1, 255, 252));
     for (rtype, number, names) in [
         (A, 1, 0),
         (NS, 2, 1),
@@ -250,9 +342,12 @@ fn types_and_the_names_in_their_data(rt: HostRuntime) {
         (AAAA, 28, 0),
         (SRV, 33, 1),
     ] {
-        assert_eq!(rt; (rtype, names_in(rtype)), (number, names));
-        assert!(rt; answerable(rtype), "of type {rtype}");
+        check_answered(&rt, rtype, number, names);
     }
+}
+
+#[test]
+fn types_without_names_in_their_data(rt: HostRuntime) {
     for (rtype, want) in [
         (13, true),
         (16, true),
@@ -263,16 +358,34 @@ fn types_and_the_names_in_their_data(rt: HostRuntime) {
         (AXFR, false),
         (ANY, false),
     ] {
-        assert_eq!(rt; answerable(rtype), want, "of type {rtype}");
-        assert_eq!(rt; names_in(rtype), 0, "of type {rtype}");
+        check_type(&rt, rtype, 0, want);
+    }
+}
+
+/// Records of these types and data.
+fn records_of(rt: &impl Abort, alloc: Global, data: &[(u16, &[u8])]) -> List<Record> {
+    let mut rows = List::new(alloc);
+    for (rtype, rdata) in data {
+        rows.push(Record::make(alloc, *rtype, 300, 0, rdata).expect(rt, "memory"))
+            .expect(rt, "memory");
+    }
+    rows
+}
+
+/// The record at a place compares with each of these as the place with theirs.
+fn check_place(rt: &impl Abort, rows: &[Record], place: usize, row: &Record) {
+    for (other, right) in rows.iter().enumerate() {
+        assert_eq!(rt;
+            compare_rows(row, right),
+            place.cmp(&other),
+            "at {place} and {other}"
+        );
     }
 }
 
 /// Each record stands before the next. Letters in names count in lower case, other bytes as they are.
 #[test]
 fn the_order_of_records(rt: HostRuntime) {
-    let alloc = rt.alloc();
-    let mut rows = List::new(alloc);
     let data: [(u16, &[u8]); 8] = [
         (A, b"1234"),
         (A, b"12345"),
@@ -283,22 +396,27 @@ fn the_order_of_records(rt: HostRuntime) {
         (MX, b"\0n\x01A\0"),
         (MX, b"\0n\x01b\0"),
     ];
-    for (rtype, rdata) in data {
-        rows.push(Record::make(alloc, rtype, 300, 0, rdata).expect(&rt, "memory"))
-            .expect(&rt, "memory");
+    let rows = records_of(&rt, rt.alloc(), &data);
+    for (place, row) in rows.as_slice().iter().enumerate() {
+        check_place(&rt, rows.as_slice(), place, row);
     }
-    for (place, left) in rows.as_slice().iter().enumerate() {
-        for (other, right) in rows.as_slice().iter().enumerate() {
-            assert_eq!(rt;
-                compare_rows(left, right),
-                place.cmp(&other),
-                "at {place} and {other}"
-            );
-        }
-    }
-    let lower = Record::make(alloc, NS, 300, 0, b"\x01n\0").expect(&rt, "memory");
-    let upper = Record::make(alloc, NS, 60, 7, b"\x01N\0").expect(&rt, "memory");
+}
+
+#[test]
+fn records_that_are_one_in_the_order(rt: HostRuntime) {
+    let lower = Record::make(rt.alloc(), NS, 300, 0, b"\x01n\0").expect(&rt, "memory");
+    let upper = Record::make(rt.alloc(), NS, 60, 7, b"\x01N\0").expect(&rt, "memory");
     assert_eq!(rt; compare_rows(&lower, &upper), Ordering::Equal);
+}
+
+/// The data of a record lead to this name, or to none.
+fn check_target(rt: &impl Abort, alloc: Global, rtype: u16, rdata: &[u8], want: &str) {
+    let row = Record::make(alloc, rtype, 300, 0, rdata).expect(rt, "memory");
+    let same = match target_of(&row) {
+        Some(found) => found.same(&name(rt, want)),
+        None => want == "none",
+    };
+    assert!(rt; same, "of {want}");
 }
 
 #[test]
@@ -314,13 +432,14 @@ fn names_that_data_leads_to(rt: HostRuntime) {
         (MX, b"\0", "none"),
     ];
     for (rtype, rdata, want) in data {
-        let row = Record::make(rt.alloc(), rtype, 300, 0, rdata).expect(&rt, "memory");
-        let same = match target_of(&row) {
-            Some(found) => found.same(&name(&rt, want)),
-            None => want == "none",
-        };
-        assert!(rt; same, "of {want}");
+        check_target(&rt, rt.alloc(), rtype, rdata, want);
     }
+}
+
+/// The numbers at the front and at the end of bytes.
+fn check_numbers(rt: &impl Abort, bytes: &[u8], first: u32, last: u32) {
+    check_number(rt, number_of_bytes(bytes), first, "number at the front");
+    check_number(rt, minimum_of(bytes), last, "number at the end");
 }
 
 #[test]
@@ -333,8 +452,7 @@ fn numbers_of_bytes(rt: HostRuntime) {
         (&[9, 9, 9, 9, 0, 0, 14, 16], 0x0909_0909, 3600),
     ];
     for (bytes, first, last) in cases {
-        assert_eq!(rt; number_of_bytes(bytes), first);
-        assert_eq!(rt; minimum_of(bytes), last);
+        check_numbers(&rt, bytes, first, last);
     }
 }
 
@@ -342,5 +460,5 @@ fn numbers_of_bytes(rt: HostRuntime) {
 fn a_name_behind_other_bytes(rt: HostRuntime) {
     let mut out = list_of(&rt, rt.alloc(), b"ab");
     push_wire(&mut out, &name_on_wire(&rt, b"\x02Ns\x01x\0")).expect(&rt, "memory");
-    assert_eq!(rt; out.as_slice(), b"ab\x02Ns\x01x\0".as_slice());
+    check_bytes(&rt, out.as_slice(), b"ab\x02Ns\x01x\0", "the name behind");
 }

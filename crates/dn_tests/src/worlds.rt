@@ -1,5 +1,5 @@
 use crate::fixtures::{crosses, is_on_wire, name};
-use dn_answer::Rcode;
+use dn_answer::{AnswerValue, Rcode};
 use dn_io::Moment;
 use dn_name::Name;
 use dn_rdata::A;
@@ -9,45 +9,111 @@ use dn_zone::{Answer, Event};
 use std::alloc::Global;
 use std::process::Abort;
 
-fn replica(number: u8, host: &Name) -> WorldEvent {
+/// What happens in the world, but for the name of its zone or host.
+#[derive(Clone, Copy)]
+enum Deed {
+    Replica(u8),
+    Create(usize),
+    Join(usize),
+    Step(usize),
+    Pull { by: usize, of: usize },
+    Deliver(u32),
+}
+
+/// A replica whose identity is this number.
+fn replica(number: u8, host: Name) -> WorldEvent {
     WorldEvent::Replica {
         id: ReplicaId([number; 16]),
-        host: *host,
+        host,
     }
 }
 
-fn create(at: usize, apex: &Name) -> WorldEvent {
+/// A replica makes a zone.
+fn create(at: usize, apex: Name) -> WorldEvent {
     WorldEvent::Create {
         at,
-        apex: *apex,
-        mailbox: *apex,
+        apex,
+        mailbox: apex,
         moment: Moment::first(),
     }
 }
 
-fn join(at: usize, apex: &Name) -> WorldEvent {
-    WorldEvent::Join { at, apex: *apex }
-}
-
 /// A step of a pass.
-fn step(at: usize, apex: &Name) -> WorldEvent {
+fn step(at: usize, apex: Name) -> WorldEvent {
     WorldEvent::Act {
         at,
-        apex: *apex,
+        apex,
         event: Event::Step { most: 1 },
     }
 }
 
-fn pull(by: usize, of: usize, apex: &Name) -> WorldEvent {
-    WorldEvent::Pull {
-        by,
-        of,
-        apex: *apex,
+/// The event of a deed, with this name.
+fn event(rt: &impl Abort, deed: Deed, text: &str) -> WorldEvent {
+    let apex = name(rt, text);
+    match deed {
+        Deed::Replica(number) => replica(number, apex),
+        Deed::Create(at) => create(at, apex),
+        Deed::Join(at) => WorldEvent::Join { at, apex },
+        Deed::Step(at) => step(at, apex),
+        Deed::Pull { by, of } => WorldEvent::Pull { by, of, apex },
+        Deed::Deliver(packet) => WorldEvent::Deliver { packet },
     }
 }
 
-fn deliver(packet: u32) -> WorldEvent {
-    WorldEvent::Deliver { packet }
+/// The world answers a deed so.
+fn check_deed(
+    rt: &impl Abort,
+    alloc: Global,
+    world: &mut World,
+    deed: Deed,
+    text: &str,
+    want: WorldAnswer,
+) {
+    let event = event(rt, deed, text);
+    let answer = world.step(alloc, &event).expect(rt, "memory");
+    assert_eq!(rt; answer, want);
+}
+
+/// The replica has a zone of so many units, or none.
+fn check_count(rt: &impl Abort, world: &World, at: usize, apex: &str, count: Option<usize>) {
+    let found = world.zone(at, &name(rt, apex));
+    assert_eq!(rt; found.map(|zone| zone.table().count()), count, "of {apex}");
+}
+
+/// The first replica has the zones x. and y., and nothing else is there.
+fn check_zones(rt: &impl Abort, world: &World) {
+    check_count(rt, world, 0, "X", Some(2));
+    check_count(rt, world, 0, "y", Some(0));
+    check_count(rt, world, 0, "z", None);
+    check_count(rt, world, 1, "x", None);
+}
+
+/// Deeds at one replica, in turn, and what the world answers.
+const AT_ONE: &[(Deed, &str, WorldAnswer)] = &[
+    (Deed::Create(0), "x", WorldAnswer::No(WorldNo::NoReplica)),
+    (Deed::Join(0), "x", WorldAnswer::No(WorldNo::NoReplica)),
+    (Deed::Step(0), "x", WorldAnswer::No(WorldNo::NoReplica)),
+    (Deed::Replica(1), "x", WorldAnswer::Made),
+    (Deed::Replica(1), "x", WorldAnswer::No(WorldNo::IdTaken)),
+    (Deed::Step(0), "x", WorldAnswer::No(WorldNo::NoZone)),
+    (Deed::Create(0), "X", WorldAnswer::Made),
+    (Deed::Create(0), "x", WorldAnswer::No(WorldNo::ZoneThere)),
+    (Deed::Join(0), "x", WorldAnswer::No(WorldNo::ZoneThere)),
+    (Deed::Join(0), "y", WorldAnswer::Made),
+    (Deed::Create(0), "y", WorldAnswer::No(WorldNo::ZoneThere)),
+    (Deed::Step(0), "x", WorldAnswer::Zone(Answer::Idle)),
+];
+
+/// The world answers each deed of a table so.
+fn check_deeds(
+    rt: &impl Abort,
+    alloc: Global,
+    world: &mut World,
+    cases: &[(Deed, &str, WorldAnswer)],
+) {
+    for (deed, text, want) in cases {
+        check_deed(rt, alloc, world, *deed, text, *want);
+    }
 }
 
 #[test]
@@ -55,120 +121,155 @@ fn replicas_and_zones(rt: HostRuntime) {
     let alloc = rt.alloc();
     let mut world = World::new(alloc);
     crosses(&world);
-    let (x, capital, y) = (name(&rt, "x"), name(&rt, "X"), name(&rt, "y"));
-    for (event, want) in [
-        (create(0, &x), WorldAnswer::No(WorldNo::NoReplica)),
-        (join(0, &x), WorldAnswer::No(WorldNo::NoReplica)),
-        (step(0, &x), WorldAnswer::No(WorldNo::NoReplica)),
-        (replica(1, &x), WorldAnswer::Made),
-        (replica(1, &x), WorldAnswer::No(WorldNo::IdTaken)),
-        (step(0, &x), WorldAnswer::No(WorldNo::NoZone)),
-        (create(0, &capital), WorldAnswer::Made),
-        (create(0, &x), WorldAnswer::No(WorldNo::ZoneThere)),
-        (join(0, &x), WorldAnswer::No(WorldNo::ZoneThere)),
-        (join(0, &y), WorldAnswer::Made),
-        (create(0, &y), WorldAnswer::No(WorldNo::ZoneThere)),
-        (step(0, &x), WorldAnswer::Zone(Answer::Idle)),
-    ] {
-        assert_eq!(rt; world.step(alloc, &event).expect(&rt, "memory"), want);
-    }
-    for (at, apex, count) in [
-        (0, "X", Some(2)),
-        (0, "y", Some(0)),
-        (0, "z", None),
-        (1, "x", None),
-    ] {
-        let found = world.zone(at, &name(&rt, apex));
-        assert_eq!(rt; found.map(|zone| zone.table().count()), count);
-    }
+    check_deeds(&rt, alloc, &mut world, AT_ONE);
+    check_zones(&rt, &world);
 }
 
 #[test]
 fn packets_between_replicas(rt: HostRuntime) {
     let alloc = rt.alloc();
     let mut world = World::new(alloc);
-    let x = name(&rt, "x");
-    for (event, want) in [
-        (deliver(0), WorldAnswer::No(WorldNo::NoPacket)),
-        (deliver(1), WorldAnswer::No(WorldNo::NoPacket)),
-        (pull(0, 1, &x), WorldAnswer::No(WorldNo::NoReplica)),
-        (replica(1, &x), WorldAnswer::Made),
-        (pull(0, 1, &x), WorldAnswer::No(WorldNo::NoReplica)),
-        (replica(2, &x), WorldAnswer::Made),
-        (create(0, &x), WorldAnswer::Made),
-        (pull(1, 0, &x), WorldAnswer::No(WorldNo::NoZone)),
-        (pull(0, 1, &x), WorldAnswer::No(WorldNo::NoZone)),
-        (join(1, &x), WorldAnswer::Made),
-        (pull(0, 0, &x), WorldAnswer::No(WorldNo::SelfPull)),
-        (pull(1, 0, &x), WorldAnswer::Sent { packet: 1 }),
-        (deliver(2), WorldAnswer::No(WorldNo::NoPacket)),
-        (deliver(1), WorldAnswer::Sent { packet: 2 }),
-        (deliver(2), WorldAnswer::Zone(Answer::Merged { won: 2 })),
-        (deliver(2), WorldAnswer::Zone(Answer::Merged { won: 0 })),
+    for (deed, want) in [
+        (Deed::Deliver(0), WorldAnswer::No(WorldNo::NoPacket)),
+        (Deed::Deliver(1), WorldAnswer::No(WorldNo::NoPacket)),
+        (
+            Deed::Pull { by: 0, of: 1 },
+            WorldAnswer::No(WorldNo::NoReplica),
+        ),
+        (Deed::Replica(1), WorldAnswer::Made),
+        (
+            Deed::Pull { by: 0, of: 1 },
+            WorldAnswer::No(WorldNo::NoReplica),
+        ),
+        (Deed::Replica(2), WorldAnswer::Made),
+        (Deed::Create(0), WorldAnswer::Made),
+        (
+            Deed::Pull { by: 1, of: 0 },
+            WorldAnswer::No(WorldNo::NoZone),
+        ),
+        (
+            Deed::Pull { by: 0, of: 1 },
+            WorldAnswer::No(WorldNo::NoZone),
+        ),
+        (Deed::Join(1), WorldAnswer::Made),
+        (
+            Deed::Pull { by: 0, of: 0 },
+            WorldAnswer::No(WorldNo::SelfPull),
+        ),
+        (Deed::Pull { by: 1, of: 0 }, WorldAnswer::Sent { packet: 1 }),
+        (Deed::Deliver(2), WorldAnswer::No(WorldNo::NoPacket)),
+        (Deed::Deliver(1), WorldAnswer::Sent { packet: 2 }),
+        (
+            Deed::Deliver(2),
+            WorldAnswer::Zone(Answer::Merged { won: 2 }),
+        ),
+        (
+            Deed::Deliver(2),
+            WorldAnswer::Zone(Answer::Merged { won: 0 }),
+        ),
     ] {
-        assert_eq!(rt; world.step(alloc, &event).expect(&rt, "memory"), want);
+        check_deed(&rt, alloc, &mut world, deed, "x", want);
     }
+}
+
+/// The world does what the deed says.
+fn check_made(rt: &impl Abort, alloc: Global, world: &mut World, deed: Deed, text: &str) {
+    check_deed(rt, alloc, world, deed, text, WorldAnswer::Made);
+}
+
+/// The world refuses the deed so.
+fn check_no(
+    rt: &impl Abort,
+    alloc: Global,
+    world: &mut World,
+    deed: Deed,
+    text: &str,
+    want: WorldNo,
+) {
+    check_deed(rt, alloc, world, deed, text, WorldAnswer::No(want));
+}
+
+/// Replica 63 makes the zone of a number.
+fn check_zone_made(rt: &impl Abort, alloc: Global, world: &mut World, number: u8) {
+    let apex = format!(in alloc; "z{number}").expect(rt, "memory");
+    check_made(rt, alloc, world, Deed::Create(63), apex.as_str());
+}
+
+/// A world of 64 replicas, the last of them with the zones z0. to z15.
+fn full(rt: &impl Abort, alloc: Global) -> World {
+    let mut world = World::new(alloc);
+    for number in 0..64 {
+        check_made(rt, alloc, &mut world, Deed::Replica(number), "x");
+    }
+    for number in 0..16 {
+        check_zone_made(rt, alloc, &mut world, number);
+    }
+    world
 }
 
 // Another identity is tested before the number of replicas, and another zone before the number of zones.
 #[test]
 fn a_world_has_64_replicas_of_16_zones(rt: HostRuntime) {
     let alloc = rt.alloc();
-    let mut world = World::new(alloc);
-    let (x, last, another) = (name(&rt, "x"), name(&rt, "z15"), name(&rt, "z16"));
-    for number in 0..64 {
-        let event = replica(number, &x);
-        assert_eq!(rt;
-            world.step(alloc, &event).expect(&rt, "memory"),
-            WorldAnswer::Made
-        );
-    }
-    for number in 0..16 {
-        let apex = format!(in alloc; "z{number}").expect(&rt, "memory");
-        let event = create(63, &name(&rt, apex.as_str()));
-        assert_eq!(rt;
-            world.step(alloc, &event).expect(&rt, "memory"),
-            WorldAnswer::Made
-        );
-    }
-    for (event, want) in [
-        (replica(64, &x), WorldNo::Full),
-        (replica(63, &x), WorldNo::IdTaken),
-        (create(63, &another), WorldNo::Full),
-        (join(63, &another), WorldNo::Full),
-        (join(63, &last), WorldNo::ZoneThere),
+    let mut world = full(&rt, alloc);
+    for (deed, text, want) in [
+        (Deed::Replica(64), "x", WorldNo::Full),
+        (Deed::Replica(63), "x", WorldNo::IdTaken),
+        (Deed::Create(63), "z16", WorldNo::Full),
+        (Deed::Join(63), "z16", WorldNo::Full),
+        (Deed::Join(63), "z15", WorldNo::ZoneThere),
     ] {
-        assert_eq!(rt;
-            world.step(alloc, &event).expect(&rt, "memory"),
-            WorldAnswer::No(want)
-        );
+        check_no(&rt, alloc, &mut world, deed, text, want);
     }
-    assert_eq!(rt;
-        world
-            .step(alloc, &create(62, &another))
-            .expect(&rt, "memory"),
-        WorldAnswer::Made
-    );
+    check_made(&rt, alloc, &mut world, Deed::Create(62), "z16");
 }
 
 /// The world of two replicas, the first of which has zones in one another and one beside them.
 fn nested(rt: &impl Abort, alloc: Global) -> World {
     let mut world = World::new(alloc);
-    let x = name(rt, "x");
-    for event in [replica(1, &x), replica(2, &x)] {
-        assert_eq!(rt;
-            world.step(alloc, &event).expect(rt, "memory"),
-            WorldAnswer::Made
-        );
-    }
-    for text in ["a.X", "x", "b.a.x", "y"] {
-        let event = create(0, &name(rt, text));
-        assert_eq!(rt;
-            world.step(alloc, &event).expect(rt, "memory"),
-            WorldAnswer::Made
-        );
-    }
+    check_made(rt, alloc, &mut world, Deed::Replica(1), "x");
+    check_made(rt, alloc, &mut world, Deed::Replica(2), "x");
+    check_made(rt, alloc, &mut world, Deed::Create(0), "a.X");
+    check_made(rt, alloc, &mut world, Deed::Create(0), "x");
+    check_made(rt, alloc, &mut world, Deed::Create(0), "b.a.x");
+    check_made(rt, alloc, &mut world, Deed::Create(0), "y");
     world
+}
+
+/// The first row beside the answer is of this name on the wire, or there is none and the name is empty.
+fn is_beside(reply: &AnswerValue, apex: &[u8]) -> bool {
+    match reply.authority.get(0) {
+        Some(row) => is_on_wire(&row.name, apex),
+        None => apex.is_empty(),
+    }
+}
+
+/// The replica answers with this code and the SOA of this zone.
+fn check_nearest(
+    rt: &impl Abort,
+    alloc: Global,
+    world: &World,
+    at: usize,
+    asked: &str,
+    rcode: Rcode,
+    apex: &str,
+) {
+    let reply = world
+        .reply(alloc, at, &name(rt, asked), A)
+        .expect(rt, "memory")
+        .expect(rt, "the replica is there");
+    assert_eq!(rt; reply.rcode, rcode, "of {asked}");
+    assert!(rt; is_beside(&reply, apex.as_bytes()), "of {asked}");
+}
+
+/// The replica has no zone of the name, and refuses.
+fn check_no_zone(rt: &impl Abort, alloc: Global, world: &World, at: usize, asked: &str) {
+    check_nearest(rt, alloc, world, at, asked, Rcode::Refused, "");
+}
+
+/// The first replica has no name as is asked, in this zone.
+fn check_no_name(rt: &impl Abort, alloc: Global, world: &World, asked: &str, apex: &str) {
+    check_nearest(rt, alloc, world, 0, asked, Rcode::NxDomain, apex);
 }
 
 // The SOA beside a negative answer is that of the zone that answers.
@@ -176,28 +277,21 @@ fn nested(rt: &impl Abort, alloc: Global) -> World {
 fn the_nearest_zone_answers(rt: HostRuntime) {
     let alloc = rt.alloc();
     let world = nested(&rt, alloc);
-    for (at, asked, rcode, apex) in [
-        (0, "www.A.x", Rcode::NxDomain, "\x01a\x01x\0"),
-        (0, "x", Rcode::NoError, "\x01x\0"),
-        (0, "c.b.a.x", Rcode::NxDomain, "\x01b\x01a\x01x\0"),
-        (0, "z", Rcode::Refused, ""),
-        (0, ".", Rcode::Refused, ""),
-        (1, "x", Rcode::Refused, ""),
-    ] {
-        let reply = world
-            .reply(alloc, at, &name(&rt, asked), A)
-            .expect(&rt, "memory")
-            .expect(&rt, "the replica is there");
-        assert_eq!(rt; reply.rcode, rcode, "of {asked}");
-        match reply.authority.get(0) {
-            Some(row) => assert!(rt; is_on_wire(&row.name, apex.as_bytes()), "of {asked}"),
-            None => assert_eq!(rt; apex, "", "of {asked}"),
-        }
+    check_no_name(&rt, alloc, &world, "www.A.x", "\x01a\x01x\0");
+    check_no_name(&rt, alloc, &world, "c.b.a.x", "\x01b\x01a\x01x\0");
+    check_nearest(&rt, alloc, &world, 0, "x", Rcode::NoError, "\x01x\0");
+    for (at, asked) in [(0, "z"), (0, "."), (1, "x")] {
+        check_no_zone(&rt, alloc, &world, at, asked);
     }
-    assert!(rt;
-        world
-            .reply(alloc, 2, &name(&rt, "x"), A)
-            .expect(&rt, "memory")
-            .is_none()
-    );
+}
+
+// A number behind the last replica's has no reply.
+#[test]
+fn another_replica_is_silent(rt: HostRuntime) {
+    let alloc = rt.alloc();
+    let world = nested(&rt, alloc);
+    let reply = world
+        .reply(alloc, 2, &name(&rt, "x"), A)
+        .expect(&rt, "memory");
+    assert!(rt; reply.is_none());
 }
