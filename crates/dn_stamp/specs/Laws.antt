@@ -102,3 +102,9 @@ agree_by left right other false one two = one
 
 pub agree_onward : {T : Type 0} (left right other : Stamped T) → Agree left other → Agree right other → Agree (greater left right) other
 agree_onward left right other one two = agree_by left right other (is_lt (stamp_order left.stamp right.stamp)) one two
+
+pub itself : {T : Type 0} (one : Stamped T) → Agree one one
+itself one = λ stamps. refl
+
+pub both_ways : {T : Type 0} (left right : Stamped T) → Agree left right → Agree right left
+both_ways left right agree = λ stamps. sym (agree (sym stamps))

@@ -1,3 +1,4 @@
 pub mod Join
 pub mod Laws
+pub mod Order
 pub mod Stamp

@@ -1,6 +1,7 @@
 ghost use Rattle.std.specs.Prelude.{◌≡◌};
 ghost use Rattle.dn_stamp.specs.Join.{Agree, greater};
-ghost use Rattle.dn_stamp.specs.Laws.{agree_onward, associates, commutes, idempotent};
+ghost use Rattle.dn_stamp.specs.Laws.{agree_onward, associates, both_ways, commutes, idempotent, itself};
+ghost use Rattle.dn_stamp.specs.Order.{OrderIsFree};
 
 use crate::Stamp;
 
@@ -20,6 +21,10 @@ pub trait Join: Sized {
     ghost associates: { (left mid right : Self) → agree left mid → agree mid right → agree left right → joined (joined left mid) right ≡ joined left (joined mid right) };
 
     ghost idempotent: { (one : Self) → joined one one ≡ one };
+
+    ghost agrees_with_itself: { (one : Self) → agree one one };
+
+    ghost agrees_both_ways: { (left right : Self) → agree left right → agree right left };
 
     /// What agrees with two values agrees with their join.
     ghost agrees_onward: { (left right other : Self) → agree left other → agree right other → agree (joined left right) other };
@@ -44,6 +49,10 @@ impl<T: Drop> Join for Stamped<T> {
 
     ghost idempotent = { idempotent };
 
+    ghost agrees_with_itself = { itself };
+
+    ghost agrees_both_ways = { both_ways };
+
     ghost agrees_onward = { agree_onward };
 
     fn join(self, other: Self) -> Self {
@@ -54,3 +63,9 @@ impl<T: Drop> Join for Stamped<T> {
         }
     }
 }
+
+/// The law that makes a join of use between servers: of a list of values of which any two agree, joined one after another,
+/// the order and the repeats make no difference.
+pub fn order_makes_no_difference<J: Join>()
+    ensures { OrderIsFree J.agree J.joined }
+{}

@@ -4,5 +4,5 @@
 mod join;
 mod stamp;
 
-pub use join::{Join, Stamped};
+pub use join::{Join, Stamped, order_makes_no_difference};
 pub use stamp::{ReplicaId, Stamp};

@@ -1,4 +1,4 @@
-ghost use Rattle.std.specs.Prelude.{◌≡◌, ◌≢◌, ◌↔◌, ℕ, List, false, map};
+ghost use Rattle.std.specs.Prelude.{◌≡◌, ◌≢◌, ◌≤◌, ◌↔◌, ℕ, List, false, map};
 ghost use Rattle.dn_io.specs.Outside.{Rose, Told};
 ghost use Rattle.dn_world.specs.Laws.{AgesRightly, AnswersAlike};
 ghost use Rattle.dn_script.specs.Play.{world_after};
@@ -31,6 +31,9 @@ pub fn batch<S: Source, K: Sink>(
     ensures read { result ≡ Status.ReadFault → Rose (S.faults source.old) (S.faults source.new) }
     ensures write { result ≡ Status.WriteFault → Rose (K.faults sink.old) (K.faults sink.new) }
     ensures link { result ≢ Status.LinkFault }
+    // Neither count of faults ever falls.
+    ensures reads { S.faults source.old ≤ S.faults source.new }
+    ensures writes { K.faults sink.old ≤ K.faults sink.new }
 
     // Where each line is valid and neither count has risen, it is done, or wanted memory.
     ensures complete { Told (S.left source.old) (S.left source.new) (λ before now.
