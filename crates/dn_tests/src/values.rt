@@ -8,7 +8,7 @@ use dn_rdata::{
     A, AAAA, ANY, AXFR, CNAME, IN, MX, NS, PTR, Record, SOA, SRV, answerable, compare_rows,
     minimum_of, names_in, number_of_bytes, push_wire, target_of,
 };
-use dn_stamp::{Join, ReplicaId, Stamp, Stamped};
+use dn_stamp::{Join, ReplicaId, Stamp, Stamped, order_makes_no_difference};
 use std::alloc::Global;
 use std::cmp::Ordering;
 use std::process::Abort;
@@ -282,6 +282,7 @@ fn what_holds_of_any_join_holds_of_stamped_values(rt: HostRuntime) {
         stamp: stamp(version, 0, 0),
         value: 5,
     };
+    order_makes_no_difference::<Stamped<u32>>();
     assert_eq!(rt; from_the_left(of(1), of(3), of(2)).stamp.version, 3);
     assert_eq!(rt; the_other_way(of(1), of(2)).stamp.version, 2);
 }
