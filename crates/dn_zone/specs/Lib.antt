@@ -1,5 +1,6 @@
 pub mod Aging
 pub mod Creation
+pub mod Joins
 pub mod Merge
 pub mod Outcome
 pub mod Settings

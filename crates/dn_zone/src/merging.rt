@@ -1,7 +1,9 @@
 ghost use Rattle.std.specs.Prelude.{◌≡◌, ◌+◌, ◌≤◌, length, IfOk, IsTrue};
 ghost use Rattle.std.specs.List.{AllByRecursion};
-ghost use Rattle.dn_store.specs.Table.{KeysDiffer, change_limit};
+ghost use Rattle.dn_store.specs.Table.{AreWritten, IsNotWritten, KeysDiffer, change_limit, unit_at};
+ghost use Rattle.dn_store.specs.declared.unit.UnitKey.{UnitKey};
 ghost use Rattle.dn_store.specs.Value.{fits};
+ghost use Rattle.dn_zone.specs.Joins.{JoinsChanges};
 ghost use Rattle.dn_zone.specs.Merge.{pull_of, winners, wins};
 ghost use Rattle.dn_zone.specs.Zone.{after_merge, merge_step};
 ghost use Rattle.dn_zone.specs.Zone.Preparing.{Prepares};
@@ -51,7 +53,9 @@ impl Zone {
         requires keys { KeysDiffer won.now }
         requires values { AllByRecursion (λ write. IsTrue (fits write.value)) won.now }
         requires count { self.now.table.1 + length won.now ≤ change_limit }
-        ensures { IfOk result (λ zone. zone ≡ after_merge self.now changes.now won.now) }
+        ensures after { IfOk result (λ zone. zone ≡ after_merge self.now changes.now won.now) }
+        ensures written { IfOk result (λ zone. AreWritten won.now zone.table.0) }
+        ensures others { (key : UnitKey) → IsNotWritten key won.now → IfOk result (λ zone. unit_at key zone.table.0 ≡ unit_at key self.now.table.0) }
     {
         let seen = self.cursors.of(changes.supplier).max(changes.to);
         Ok(Zone {
@@ -70,7 +74,9 @@ impl Zone {
     /// `OutOfMemory`.
     #[tactic(auto, unfolding(crate::specs::Zone::merge_step))]
     pub fn merge(&self, alloc: Global, changes: &Changes) -> Result<Prepared, OutOfMemory>
-        ensures { IfOk result (λ made. Prepares made self.now (merge_step self.now changes.now)) }
+        ensures step { IfOk result (λ made. Prepares made self.now (merge_step self.now changes.now)) }
+        // Under each key stands the join of what stood there and of what came (`greater` of dn_stamp).
+        ensures joins { IfOk result (λ made. JoinsChanges made self.now changes.now) }
     {
         let cursor = self.cursors.of(changes.supplier);
         if cursor < changes.from {

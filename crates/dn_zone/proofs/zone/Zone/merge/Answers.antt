@@ -1,4 +1,7 @@
-use Rattle.std.proofs.Common.{◌≤◌, length, arith}
+use Rattle.std.proofs.Common.{◌≤◌, length, arith, subst}
+use Rattle.dn_link.specs.declared.packet.Changes.{Changes}
+use Rattle.dn_zone.specs.Joins.{Joins}
+use Rattle.dn_zone.proofs.JoinLemmas.{joins_seen}
 use Rattle.dn_zone.proofs.WinnerLemmas.{won_taken}
 use Rattle.dn_zone.proofs.zone.Zone.merge.Goals as goal
 
@@ -15,3 +18,9 @@ overflow_cast-count c =
     let most : length c.in_ok-won.won ≤ 64000 =
     (won_taken c.args.self.now.table.0 c.changes.inside.units c.as_slice.result.now c.in_ok-won.won c.changes.invariant c.as_slice.ensures c.in_ok-won.ensures).count in
     omega arith
+
+pub returns-clause-joins : goal.returns-clause-joins
+returns-clause-joins c =
+    subst (λ (changes : Changes). Joins changes.units c.args.self.now.table.0 c.in_ok-after.after.table.0) c.changes.view_is
+    (joins_seen c.args.self.now.table.0 c.in_ok-after.after.table.0 c.changes.inside.units c.as_slice.result.now c.in_ok-won.won c.changes.invariant.keys
+    c.as_slice.ensures c.in_ok-won.ensures c.in_ok-after.ensures.written c.in_ok-after.ensures.others)
