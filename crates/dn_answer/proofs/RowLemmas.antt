@@ -5,7 +5,7 @@ use Rattle.std.specs.List.{list_any}
 use Rattle.dn_name.specs.Name.{Labels, is_same}
 use Rattle.dn_store.specs.declared.unit.Unit as units
 use Rattle.dn_answer.specs.declared.rows.Owned.{Owned}
-use Rattle.dn_answer.specs.Rows.{rows_of_node, has_some, of_name, of_type}
+use Rattle.dn_answer.specs.Rows.{first_row, rows_of_node, has_some, of_name, of_type}
 
 rows_step : (list : List units.Unit) (at : ℕ) (unit : units.Unit) → slice_get list at ≡ Some unit → flat_map rows_of_node (take (suc at) list) ≡ flat_map rows_of_node (take at list) ++ rows_of_node unit
 rows_step [] at unit is = absurd (cc)
@@ -39,3 +39,7 @@ some_both kind named (one ∷ rows) = some_step kind one (filter named rows) (na
 pub some_found : (rtype : ℕ) (name : Labels) (rows : List Owned) → has_some (of_type rtype (of_name name rows)) ≡ list_any (λ one. nat_eq one.row.rtype rtype && is_same one.name name) rows
 unfolding of_type of_name
 some_found rtype name rows = some_both (λ one. nat_eq one.row.rtype rtype) (λ one. is_same one.name name) rows
+
+pub first_is : (rows : List Owned) → first_row rows ≡ slice_get rows 0
+first_is [] = refl
+first_is (one ∷ rows) = refl

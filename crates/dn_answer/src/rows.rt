@@ -1,5 +1,5 @@
 ghost use Rattle.std.specs.Prelude.{◌≡◌, ◌++◌, map, IfOk, OnOk};
-ghost use Rattle.dn_answer.specs.Rows.{has_some, of_name, of_type, owned_by, rows_of, rows_of_node};
+ghost use Rattle.dn_answer.specs.Rows.{first_row, has_some, of_name, of_type, owned_by, rows_of, rows_of_node};
 
 use dn_io::{Duplicate, List, OutOfMemory};
 use dn_name::Name;
@@ -106,6 +106,27 @@ pub fn of_type(alloc: Global, rtype: u16, rows: &[Owned]) -> Result<List<Owned>,
         }
     }
     Ok(found)
+}
+
+// A copy of the first row of a type under a name.
+//
+// # Errors
+// `OutOfMemory`.
+#[tactic(auto, using(crate::proofs::RowLemmas::first_is))]
+pub fn first_of(
+    alloc: Global,
+    rtype: u16,
+    name: &Name,
+    rows: &[Owned],
+) -> Result<Option<Owned>, OutOfMemory>
+    ensures { IfOk result (λ found. found ≡ first_row (of_type rtype (of_name name.now rows.now))) }
+{
+    let here = of_name(alloc, name, rows)?;
+    let found = of_type(alloc, rtype, here.as_slice())?;
+    match found.get(0) {
+        Some(one) => Ok(Some(one.copy(alloc)?)),
+        None => Ok(None),
+    }
 }
 
 // Whether a name has rows of a type.

@@ -8,7 +8,7 @@ ghost use Rattle.dn_answer.specs.Walk.Follow.{next_name};
 ghost use Rattle.dn_answer.specs.Rows.{of_name, of_type};
 
 use crate::reply::Rcode;
-use crate::rows::{Owned, has_type, of_name, of_type};
+use crate::rows::{Owned, first_of, has_type, of_name, of_type};
 use dn_io::{Duplicate, List, OutOfMemory};
 use dn_name::Name;
 use dn_rdata::{ANY, CNAME, NS, Record, SOA, answerable, minimum_of, target_of};
@@ -49,7 +49,7 @@ fn cut(rows: &[Owned], apex: &Name, name: &Name) -> Option<Name>
 }
 
 // The alias at a name, where a question of the type follows it.
-#[tactic(auto, using(crate::proofs::WalkLemmas::first_is), unfolding(crate::specs::Walk::link))]
+#[tactic(auto, unfolding(crate::specs::Walk::link))]
 fn link(
     alloc: Global,
     rows: &[Owned],
@@ -61,12 +61,7 @@ fn link(
     if qtype == CNAME || qtype == ANY {
         return Ok(None);
     }
-    let here = of_name(alloc, name, rows)?;
-    let aliases = of_type(alloc, CNAME, here.as_slice())?;
-    match aliases.get(0) {
-        Some(one) => Ok(Some(one.copy(alloc)?)),
-        None => Ok(None),
-    }
+    first_of(alloc, CNAME, name, rows)
 }
 
 // Whether a question of the type is for the row.
@@ -103,11 +98,8 @@ fn asked(alloc: Global, rows: &[Owned], qtype: u16, name: &Name) -> Result<List<
 fn negative(alloc: Global, rows: &[Owned], apex: &Name) -> Result<List<Owned>, OutOfMemory>
     ensures { IfOk result (λ found. found ≡ negative rows.now apex.now) }
 {
-    let here = of_name(alloc, apex, rows)?;
-    let starts = of_type(alloc, SOA, here.as_slice())?;
     let mut found = List::new(alloc);
-    if let Some(start) = starts.get(0) {
-        let mut one = start.copy(alloc)?;
+    if let Some(mut one) = first_of(alloc, SOA, apex, rows)? {
         one.row.ttl = one.row.ttl.min(minimum_of(one.row.rdata.as_slice()));
         found.push(one)?;
     }

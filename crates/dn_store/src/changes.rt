@@ -55,10 +55,7 @@ fn first_greater(sorted: &[&Unit], number: u64) -> Option<usize>
 fn place_by_number(sorted: &[&Unit], number: u64) -> usize
     ensures { result ≡ position_or_len (λ other. nat_lt number other.now.usn) sorted.now }
 {
-    match first_greater(sorted, number) {
-        Some(at) => at,
-        None => sorted.len(),
-    }
+    first_greater(sorted, number).unwrap_or(sorted.len())
 }
 
 fn insert_by_number<'a>(sorted: &mut Vec<&'a Unit>, unit: &'a Unit) -> Result<(), OutOfMemory>

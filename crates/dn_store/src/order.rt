@@ -57,10 +57,7 @@ fn first_not_below(units: &[Unit], key: &UnitKey) -> Option<usize>
 fn place_of(units: &[Unit], key: &UnitKey) -> usize
     ensures { result ≡ place_among key.now units.now }
 {
-    match first_not_below(units, key) {
-        Some(at) => at,
-        None => units.len(),
-    }
+    first_not_below(units, key).unwrap_or(units.len())
 }
 
 // Whether the unit at the place has the key.
