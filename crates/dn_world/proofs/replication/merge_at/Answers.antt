@@ -9,4 +9,4 @@ pub returns-clause-ok : goal.returns-clause-ok
 returns-clause-ok c =
     merge_puts c.args.id c.args.changes.now c.in-Some.place c.in-Some-get.zone.now c.in_ok-made.made c.args.zones.now _ c.put_prepared-answer.result
     (subst (λ (run : Run). Some c.in-Some.place ≡ position (is_zone c.args.id run.zone) c.args.zones.now) c.changes.view_is (rw c.as_slice.ensures at c.in-Some.ensures))
-    c.in-Some-get.ensures c.in_ok-made.ensures c.put_prepared-answer.ensures
+    c.in-Some-get.ensures c.in_ok-made.ensures.step c.put_prepared-answer.ensures
