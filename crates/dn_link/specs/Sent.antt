@@ -1,11 +1,12 @@
 -- The changes of a zone that one replica sends another.
-use Rattle.std.specs.Prelude.{ℕ, ◌≤◌, List, length, IsTrue}
+use Rattle.std.specs.Prelude.{◌≡◌, ℕ, ◌≤◌, true, List, length, IsTrue}
 use Rattle.std.specs.List.{AllByRecursion}
-use Rattle.dn_name.specs.Name.{Labels}
+use Rattle.dn_name.specs.Name.{Labels, IsName}
 use Rattle.dn_stamp.specs.declared.stamp.ReplicaId.{ReplicaId}
 use Rattle.dn_store.specs.declared.unit.Write.{Write}
-use Rattle.dn_store.specs.Table.{KeysDiffer}
-use Rattle.dn_store.specs.Value.{fits}
+use Rattle.dn_store.specs.Table.{KeysDiffer, change_limit}
+use Rattle.dn_store.specs.Valid.{IsValidWrite}
+use Rattle.dn_store.specs.Value.{fits, is_lower}
 
 -- how many bytes of units a packet of changes has at most
 abbrev pub changes_room : ℕ
@@ -24,3 +25,24 @@ pub record CanBeTaken (writes : List Write) : Type 0 where
   pub keys : KeysDiffer writes
   pub values : AllByRecursion (λ write. IsTrue (fits write.value)) writes
   pub count : length writes ≤ changes_room
+
+-- the most units of a packet of changes
+abbrev pub units_limit : ℕ
+units_limit = 65535
+
+-- Valid changes: the zone is a name in lower case, each unit is valid for it, their keys differ, there are at most 65,535 of
+-- them, and the numbers are in order, up to 2^63.
+pub record IsValidRun (run : Run) : Type 0 where
+  pub name : IsName run.zone
+  pub lower : is_lower run.zone ≡ true
+  pub units : AllByRecursion (IsValidWrite run.zone) run.units
+  pub keys : KeysDiffer run.units
+  pub count : length run.units ≤ units_limit
+  pub order : run.from ≤ run.to
+  pub most : run.to ≤ change_limit
+
+-- a valid question for the changes of a zone: its name is in lower case, and the number is one of a change
+pub record IsValidPull (zone : Labels) (after : ℕ) : Type 0 where
+  pub name : IsName zone
+  pub lower : is_lower zone ≡ true
+  pub most : after ≤ change_limit

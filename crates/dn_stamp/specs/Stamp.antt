@@ -1,5 +1,5 @@
 -- Stamps of writes: the version, then the second, then the replica decides which is greater.
-use Rattle.std.specs.Prelude.{ℕ, ◌+◌, Bool, not, nat_eq, nat_lt, if◌then◌else◌, Option, None, Some}
+use Rattle.std.specs.Prelude.{ℕ, ◌+◌, ◌≤◌, Bool, not, nat_eq, nat_lt, if◌then◌else◌, Option, None, Some}
 use Rattle.std.specs.Ordering.{is_gt, nat_cmp, ordering_then}
 use Rattle.std.specs.declared.cmp.Ordering.{Ordering}
 use Rattle.std.specs.Cmp.Lexicographic.{slice_cmp}
@@ -24,6 +24,10 @@ is_newer stamp other = is_gt (stamp_order stamp other)
 -- the last version of a stamp
 abbrev pub last_version : ℕ
 last_version = 4294967294
+
+-- the version of a stamp that was ever given
+abbrev pub IsVersion : ℕ → Type 0
+IsVersion version = (1 ≤ version) × (version ≤ last_version)
 
 -- no stamp comes behind this one
 abbrev pub is_last : Stamp → Bool

@@ -15,7 +15,7 @@ use Rattle.dn_zone.specs.declared.event.Answer.{Answer}
 use Rattle.dn_zone.specs.declared.event.Event.{Event}
 use Rattle.dn_zone.specs.declared.event.Event.TheVariants as events
 use Rattle.dn_zone.specs.declared.zone.Zone.{Zone}
-use Rattle.dn_zone.specs.Outcome.{UnlessVoid, WhereOver, outcome_of}
+use Rattle.dn_zone.specs.Outcome.{OfVoid, WhereOver, outcome_of}
 use Rattle.dn_zone.specs.Zone.{zstep}
 
 abbrev pub rules_at : Zone → ZoneRules
@@ -59,14 +59,19 @@ pub record StepAges (zone : Zone) (pass : Pass) (given : Given) (after : Zone ×
   pub rows : TakesStaleAlone (rules_at zone) pass.moment zone.table.0 after.0.table.0
   pub finished : WhereOver (outcome_of after.1) (LeavesNone (rules_at zone) pass given after.0.table.0)
 
-abbrev pub StepOf : Option Pass → Zone → Given → Zone × Answer → Type 0
-StepOf None zone given after = Unit {0}
-StepOf (Some pass) zone given after = UnlessVoid (outcome_of after.1) (StepAges zone pass given after)
+-- No unit changes, so no record at any key does.
+abbrev pub LeavesUnits : Zone → Zone × Answer → Type 0
+LeavesUnits zone after = after.0.table ≡ zone.table
 
--- one event
+-- A step: one that is idle, since no pass runs, or that gives a void pass up, leaves each unit as it is.
+abbrev pub StepOf : Option Pass → Zone → Given → Zone × Answer → Type 0
+StepOf None zone given after = LeavesUnits zone after
+StepOf (Some pass) zone given after = OfVoid (outcome_of after.1) (LeavesUnits zone after) (StepAges zone pass given after)
+
+-- One event. A pass that begins, or doesn't, leaves each unit as it is.
 abbrev pub EventAges : Zone → Given → Event → Type 0
 EventAges zone given (events.Admin cmd moment) = Unit {0}
-EventAges zone given (events.Begin moment) = Unit {0}
+EventAges zone given (events.Begin moment) = LeavesUnits zone (zstep zone (events.Begin moment))
 EventAges zone given (events.Step most) =
     StepOf zone.pass zone (given_behind given zone (events.Step most)) (zstep zone (events.Step most))
 EventAges zone given (events.Merge changes) = Unit {0}

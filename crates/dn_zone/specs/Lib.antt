@@ -4,4 +4,5 @@ pub mod Joins
 pub mod Merge
 pub mod Outcome
 pub mod Settings
+pub mod Valid
 pub mod Zone

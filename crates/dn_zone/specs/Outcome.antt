@@ -46,10 +46,10 @@ WhereOver (IsOver skipped) Then = Then skipped
 WhereOver IsVoid Then = Unit {0}
 WhereOver IsOther Then = Unit {0}
 
--- where the pass wasn't given up
-abbrev pub UnlessVoid : StepOutcome → Type 0 → Type 0
-UnlessVoid HasBegun Then = Then
-UnlessVoid GoesOn Then = Then
-UnlessVoid (IsOver skipped) Then = Then
-UnlessVoid IsVoid Then = Unit {0}
-UnlessVoid IsOther Then = Then
+-- the one where the pass was given up, and else the other
+abbrev pub OfVoid : StepOutcome → Type 0 → Type 0 → Type 0
+OfVoid HasBegun Void Else = Else
+OfVoid GoesOn Void Else = Else
+OfVoid (IsOver skipped) Void Else = Else
+OfVoid IsVoid Void Else = Void
+OfVoid IsOther Void Else = Else

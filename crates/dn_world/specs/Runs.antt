@@ -1,0 +1,44 @@
+-- Worlds behind lists of events: which events are proper, and what a valid world is.
+use Rattle.std.specs.Prelude.{◌≡◌, ℕ, List, [], ◌∷◌}
+use Rattle.std.specs.List.{AllByRecursion}
+use Rattle.dn_name.specs.Name.{IsName}
+use Rattle.dn_link.specs.declared.packet.Packet.{Packet}
+use Rattle.dn_link.specs.declared.packet.Packet.TheVariants as packets
+use Rattle.dn_link.specs.Sent.{IsValidPull, IsValidRun}
+use Rattle.dn_zone.specs.Valid.{IsProperEvent, IsValidZone}
+use Rattle.dn_world.specs.declared.event.WorldEvent.{WorldEvent}
+use Rattle.dn_world.specs.declared.event.WorldEvent.TheVariants as events
+use Rattle.dn_world.specs.declared.world.World.{World}
+use Rattle.dn_world.specs.World.{empty_world, wstep}
+
+-- the world after a list of events, from a world
+abbrev pub wrun_from : World → List WorldEvent → World
+wrun_from world [] = world
+wrun_from world (event ∷ rest) = wrun_from (wstep world event).0 rest
+
+-- the world after a list of events, from the world without replicas
+unfoldable pub wrun : List WorldEvent → World
+wrun events = wrun_from empty_world events
+
+-- A proper event: its names are names, and what is done to a zone is a command or a part of a pass within their limits. Changes
+-- are merged by the delivery of a packet that was sent, and by nothing else.
+abbrev pub IsProper : WorldEvent → Type 0
+IsProper (events.Replica id host) = IsName host
+IsProper (events.Create at apex mailbox moment) = IsName apex × IsName mailbox
+IsProper (events.Join at apex) = IsName apex
+IsProper (events.Act at apex event) = IsName apex × IsProperEvent event
+IsProper (events.Pull by of apex) = IsName apex
+IsProper (events.Deliver packet) = Unit {0}
+
+abbrev pub AreProper : List WorldEvent → Type 0
+AreProper list = AllByRecursion IsProper list
+
+abbrev pub IsValidPacket : Packet → Type 0
+IsValidPacket (packets.Pull zone from after) = IsValidPull zone after
+IsValidPacket (packets.Changes changes) = IsValidRun changes
+
+-- A valid world: each host is a name, each zone is valid, and so is each packet that was sent.
+pub record IsValidWorld (world : World) : Type 0 where
+  pub hosts : AllByRecursion (λ replica. IsName replica.host) world.replicas
+  pub zones : AllByRecursion IsValidZone world.zones
+  pub packets : AllByRecursion (λ post. IsValidPacket post.packet) world.packets
