@@ -25,15 +25,16 @@ use Rattle.dn_zone.specs.Outcome.{goes_on, outcome_of}
 use Rattle.dn_zone.specs.Zone.{begin_at, begin_step, begin_unless, pass_step, step_by, step_of, zstep}
 use Rattle.dn_zone.proofs.CallerLemmas.{SoundZone, limit, zones_sound}
 use Rattle.dn_world.specs.declared.event.WorldAnswer.{WorldAnswer}
+use Rattle.dn_world.specs.declared.event.WorldAnswer.TheVariants.{Made}
 use Rattle.dn_world.specs.declared.event.WorldEvent.{WorldEvent}
 use Rattle.dn_world.specs.declared.event.WorldEvent.TheVariants as world_events
 use Rattle.dn_world.specs.declared.world.Replica.{Replica}
 use Rattle.dn_world.specs.declared.world.World.{World}
+use Rattle.dn_world.specs.Runs.{run_from, wrun}
 use Rattle.dn_world.specs.World.{act_at, act_in, is_zone, wstep, wstep_act, zone_at, zone_of, zone_of_replica}
-use Rattle.dn_world.proofs.CallerLemmas.{event_all}
-use Rattle.dn_script.specs.Passes.{is_begun, is_moved, step_at, step_units, steps_from, steps_to_end, units_in, whole_pass}
-use Rattle.dn_script.specs.Play.{world_after}
-use Rattle.dn_script.proofs.EveryScriptZone.{script_all}
+use Rattle.dn_world.proofs.CallerLemmas.{event_all, found_holds, place_found, run_sound, set_found}
+use Rattle.dn_script.specs.Passes.{is_begun, is_moved, pass_events, step_at, step_units, steps_from, steps_to_end, units_in, whole_pass}
+use Rattle.dn_script.proofs.PassRuns.{whole_pass_runs}
 
 -- how many units a pass hasn't looked at
 abbrev left_by : Option Pass → List units.Unit → ℕ
@@ -80,45 +81,6 @@ step_falls_by (Some pass) zone most some grow = void_falls (nat_lt pass.start (p
 zone_falls : (zone : Zone) (most : ℕ) → 1 ≤ most → KeysGrow zone.table.0 → Falls zone.pass zone (zstep zone (events.Step most))
 unfolding zstep pass_step
 zone_falls zone most some grow = step_falls_by zone.pass zone most some grow
-
--- ---- the zone of a world
-
-place_by : (zone : Zone) (zones : List Zone) (place : ℕ) (found : Option Zone) (b : Bool) → slice_get zones place ≡ found
-    → slice_get (zone ∷ zones) (cond (not b) (1 + place) 0) ≡ cond b (Some zone) found
-place_by zone zones place found true is = refl
-place_by zone zones place found false is = let e : 1 + place ≡ suc place = omega arith in rw e is
-
--- the zone at the first place that passes a test is the first that does
-place_found : (test : Zone → Bool) (zones : List Zone) → slice_get zones (position_or_len test zones) ≡ find test zones
-place_found test [] = refl
-place_found test (zone ∷ zones) = place_by zone zones (position_or_len test zones) (find test zones) (test zone) (place_found test zones)
-
-found_by : (P : Zone → Type 0) (test : Zone → Bool) (first zone : Zone) (found : Option Zone) (b : Bool) → test first ≡ b → P first → (found ≡ Some zone → (test zone ≡ true) × P zone)
-    → cond b (Some first) found ≡ Some zone → (test zone ≡ true) × P zone
-found_by P test first zone found true passes holds later is =
-    let e : first ≡ zone = cc in subst (λ (one : Zone). (test one ≡ true) × P one) e (passes, holds)
-found_by P test first zone found false passes holds later is = later is
-
--- what is found passes the test, and what holds of all holds of it
-found_holds : (P : Zone → Type 0) (test : Zone → Bool) (zones : List Zone) (zone : Zone) → AllByRecursion P zones → find test zones ≡ Some zone → (test zone ≡ true) × P zone
-found_holds P test [] zone all is = absurd (cc)
-found_holds P test (first ∷ rest) zone all is =
-    found_by P test first zone (find test rest) (test first) refl all.0 (found_holds P test rest zone all.1) is
-
-set_by : (test : Zone → Bool) (first zone changed : Zone) (rest : List Zone) (place : ℕ) (b : Bool) → test first ≡ b → test changed ≡ true
-    → (find test rest ≡ Some zone → find test (slice_set rest place changed) ≡ Some changed) → cond b (Some first) (find test rest) ≡ Some zone
-    → find test (slice_set (first ∷ rest) (cond (not b) (1 + place) 0) changed) ≡ Some changed
-set_by test first zone changed rest place true is passes later found = ap (λ b. cond b (Some changed) (find test rest)) passes
-set_by test first zone changed rest place false is passes later found =
-    let e : 1 + place ≡ suc place = omega arith in
-    rw e (ap (λ b. cond b (Some first) (find test (slice_set rest place changed))) is ∙ later found)
-
--- a zone that passes the test too is found where it takes the place of the one that was found
-set_found : (test : Zone → Bool) (zones : List Zone) (zone changed : Zone) → test changed ≡ true → find test zones ≡ Some zone
-    → find test (slice_set zones (position_or_len test zones) changed) ≡ Some changed
-set_found test [] zone changed passes is = absurd (cc)
-set_found test (first ∷ rest) zone changed passes is =
-    set_by test first zone changed rest (position_or_len test rest) (test first) refl passes (set_found test rest zone changed passes) is
 
 -- ---- a step of a world
 
@@ -274,5 +236,6 @@ pass_ends world at apex moment all =
     pass_by (is_begun (wstep world begin).1) (wstep world begin) (λ now. steps_to_end now at apex) (began world at apex moment)
     (to_end (wstep world begin).0 at apex (event_all SoundZone zones_sound world begin all))
 
-pub whole_passes : (script : List ℕ) (count at moment : ℕ) (apex : Labels) → is_moved (whole_pass (world_after count script) at apex moment).1 ≡ false
-whole_passes script count at moment apex = pass_ends (world_after count script) at apex moment (script_all SoundZone zones_sound script count)
+pub whole_passes : (list : List WorldEvent) (at moment : ℕ) (apex : Labels) → is_moved (run_from (wrun list, Made) (pass_events (wrun list) at apex moment)).1 ≡ false
+whole_passes list at moment apex =
+    ap (λ (after : World × WorldAnswer). is_moved after.1) (sym (whole_pass_runs (wrun list) at apex moment Made)) ∙ pass_ends (wrun list) at apex moment (run_sound list)

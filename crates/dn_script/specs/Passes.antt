@@ -1,11 +1,12 @@
 -- A whole pass of the scavenger over a zone of a replica, as one line of a script runs it.
-use Rattle.std.specs.Prelude.{ℕ, zero, suc, Bool, if◌then◌else◌, length, Option, None, Some}
+use Rattle.std.specs.Prelude.{ℕ, zero, suc, Bool, if◌then◌else◌, List, [], ◌∷◌, length, Option, None, Some}
 use Rattle.dn_name.specs.Name.{Labels}
 use Rattle.dn_zone.specs.declared.event.Event.TheVariants.{Begin, Step}
 use Rattle.dn_zone.specs.declared.zone.Zone.{Zone}
 use Rattle.dn_zone.specs.Outcome.{StepOutcome, IsOther, goes_on, has_begun, outcome_of}
 use Rattle.dn_world.specs.declared.event.WorldAnswer.{WorldAnswer}
 use Rattle.dn_world.specs.declared.event.WorldAnswer.TheVariants as world
+use Rattle.dn_world.specs.declared.event.WorldEvent.{WorldEvent}
 use Rattle.dn_world.specs.declared.event.WorldEvent.TheVariants.{Act}
 use Rattle.dn_world.specs.declared.world.World.{World}
 use Rattle.dn_world.specs.World.{wstep, zone_at}
@@ -52,3 +53,26 @@ when_begun after go_on = if is_begun after.1 then go_on after.0 else after
 -- A pass at a moment: it begins, and where it does, it is run to its end. The last answer counts.
 unfoldable pub whole_pass : World → ℕ → Labels → ℕ → World × WorldAnswer
 whole_pass world at apex moment = when_begun (wstep world (Act at apex (Begin moment))) (λ now. steps_to_end now at apex)
+
+-- ---- the same as a list of events
+
+abbrev pub step_event : ℕ → Labels → WorldEvent
+step_event at apex = Act at apex (Step step_units)
+
+abbrev pub others_while_moved : World × WorldAnswer → (World → List WorldEvent) → List WorldEvent
+others_while_moved after go_on = if is_moved after.1 then go_on after.0 else []
+
+-- a step, and others while the answer is `moved`, at most so many
+unfoldable pub step_events : ℕ → World → ℕ → Labels → List WorldEvent
+step_events zero world at apex = step_event at apex ∷ []
+step_events (suc left) world at apex =
+    step_event at apex ∷ others_while_moved (step_at world at apex) (λ now. step_events left now at apex)
+
+abbrev pub others_when_begun : World × WorldAnswer → (World → List WorldEvent) → List WorldEvent
+others_when_begun after go_on = if is_begun after.1 then go_on after.0 else []
+
+-- The events of a whole pass: its begin and, where that is answered `begun`, its steps.
+unfoldable pub pass_events : World → ℕ → Labels → ℕ → List WorldEvent
+pass_events world at apex moment =
+    let begin = Act at apex (Begin moment) in
+    begin ∷ others_when_begun (wstep world begin) (λ now. step_events (units_in (zone_at now at apex)) now at apex)

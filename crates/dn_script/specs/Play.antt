@@ -1,7 +1,7 @@
--- What a script prints, and how it ends.
+-- What a script does: the events of its lines, what it prints, and how it ends.
 pub mod Stepped
 pub mod Turns
-use Rattle.std.specs.Prelude.{◌≡◌, ℕ, zero, suc, ◌+◌, Bool, not, if◌then◌else◌, nat_eq, List, [], ◌∷◌, ◌++◌, position, Option, None, Some}
+use Rattle.std.specs.Prelude.{◌≡◌, ℕ, ◌+◌, Bool, not, if◌then◌else◌, nat_eq, List, [], ◌∷◌, ◌++◌, position, Option, None, Some}
 use Rattle.std.specs.List.{list_any}
 use Rattle.std.specs.Io.KnownBytes.{Appends}
 use lib.Pointwise.{pointwise}
@@ -11,15 +11,16 @@ use Rattle.dn_io.specs.Lines.{RawLine, is_overlong, lines_of, size_of, text_of}
 use Rattle.dn_io.specs.Moments.{first_moment}
 use Rattle.dn_io.specs.Options.{◌>>=◌}
 use Rattle.dn_io.specs.Outside.{AppendsFront}
-use Rattle.dn_name.specs.Name.{Labels}
-use Rattle.dn_zone.specs.declared.event.Event.TheVariants as events
+use Rattle.dn_answer.specs.declared.reply.AnswerValue.{AnswerValue}
+use Rattle.dn_zone.specs.declared.event.Event.TheVariants.{Admin}
 use Rattle.dn_world.specs.declared.event.WorldAnswer.{WorldAnswer}
 use Rattle.dn_world.specs.declared.event.WorldAnswer.TheVariants as world
 use Rattle.dn_world.specs.declared.event.WorldEvent.{WorldEvent}
 use Rattle.dn_world.specs.declared.event.WorldEvent.TheVariants.{Act, Create, Deliver, Join, Pull, Replica}
 use Rattle.dn_world.specs.declared.world.World.{World}
 use Rattle.dn_world.specs.Ask.{world_reply}
-use Rattle.dn_world.specs.World.{empty_world, wstep}
+use Rattle.dn_world.specs.Runs.{run_from}
+use Rattle.dn_world.specs.World.{empty_world}
 use Rattle.dn_text.specs.Print.{as_line}
 use Rattle.dn_text.specs.Words.{words_of}
 use Rattle.dn_admin.specs.Answers.{answer_text}
@@ -27,7 +28,7 @@ use Rattle.dn_script.specs.declared.line.ScriptLine.{ScriptLine}
 use Rattle.dn_script.specs.declared.line.ScriptLine.TheVariants as lines
 use Rattle.dn_script.specs.declared.script.Script.{Script}
 use Rattle.dn_script.specs.Line.{line_of}
-use Rattle.dn_script.specs.Passes.{whole_pass}
+use Rattle.dn_script.specs.Passes.{pass_events}
 use Rattle.dn_script.specs.Print.{packet_text}
 use Rattle.dn_script.specs.PrintReply.{reply_text}
 use Rattle.dn_script.specs.Words.{does_nothing}
@@ -60,45 +61,68 @@ after_event script after = do
   output ← output_of after.1
   Some (record script { world = after.0 }, output)
 
-unfoldable pub run_event : Script → WorldEvent → Step
-run_event script event = after_event script (wstep script.world event)
+-- events in turn: the world behind them, and the line of output of the last answer
+unfoldable pub run_events : Script → List WorldEvent → Step
+run_events script events = after_event script (run_from (script.world, world.Made) events)
 
-unfoldable pub run_pass : Script → ℕ → Labels → Step
-run_pass script at apex = after_event script (whole_pass script.world at apex script.moment)
-
-abbrev pub with_name : List ℕ → Script × List ℕ → Script × List ℕ
-with_name name (script, output) = (record script { names = script.names ++ name ∷ [] }, output)
+-- ---- a line in the script so far
 
 abbrev pub is_new_name : Script → List ℕ → Bool
 is_new_name script name = not (list_any (is_named name) script.names)
 
--- a line in the script so far
-unfoldable pub run_line : Script → ScriptLine → Step
-run_line script (lines.Replica name id host) = do
-  after ← if is_new_name script name then run_event script (Replica id host) else None
-  Some (with_name name after)
-run_line script (lines.Create replica apex mailbox) = do
+-- The events of a line; none at all where it names a replica that isn't there, or makes one of a name that is.
+unfoldable pub events_of : Script → ScriptLine → Option (List WorldEvent)
+events_of script (lines.Replica name id host) = if is_new_name script name then Some (Replica id host ∷ []) else None
+events_of script (lines.Create replica apex mailbox) = do
   at ← replica_number script replica
-  run_event script (Create at apex mailbox script.moment)
-run_line script (lines.Join replica apex) = do
+  Some (Create at apex mailbox script.moment ∷ [])
+events_of script (lines.Join replica apex) = do
   at ← replica_number script replica
-  run_event script (Join at apex)
-run_line script (lines.Pull replica supplier apex) = do
+  Some (Join at apex ∷ [])
+events_of script (lines.Pull replica supplier apex) = do
   by ← replica_number script replica
   of ← replica_number script supplier
-  run_event script (Pull by of apex)
-run_line script (lines.Pass replica apex) = do
+  Some (Pull by of apex ∷ [])
+events_of script (lines.Pass replica apex) = do
   at ← replica_number script replica
-  run_pass script at apex
-run_line script (lines.Deliver packet) = run_event script (Deliver packet)
-run_line script (lines.At moment) = Some (record script { moment = moment }, [])
-run_line script (lines.Admin replica apex cmd) = do
+  Some (pass_events script.world at apex script.moment)
+events_of script (lines.Deliver packet) = Some (Deliver packet ∷ [])
+events_of script (lines.At moment) = Some []
+events_of script (lines.Admin replica apex cmd) = do
   at ← replica_number script replica
-  run_event script (Act at apex (events.Admin cmd script.moment))
-run_line script (lines.Ask replica name qtype) = do
-  at ← replica_number script replica
-  reply ← world_reply script.world at name qtype
-  Some (script, reply_text reply)
+  Some (Act at apex (Admin cmd script.moment) ∷ [])
+events_of script (lines.Ask replica name qtype) = Some []
+
+abbrev pub with_name : List ℕ → Script × List ℕ → Script × List ℕ
+with_name name (script, output) = (record script { names = script.names ++ name ∷ [] }, output)
+
+abbrev pub at_moment : ℕ → Script × List ℕ → Script × List ℕ
+at_moment moment (script, output) = (record script { moment = moment }, output)
+
+abbrev pub replied : Script × List ℕ → AnswerValue → Script × List ℕ
+replied (script, output) reply = (script, output ++ reply_text reply)
+
+-- What a line does besides its events: a replica has its name, the moment is set, a question is answered.
+unfoldable pub besides : ScriptLine → Script × List ℕ → Step
+besides (lines.Replica name id host) after = Some (with_name name after)
+besides (lines.Create replica apex mailbox) after = Some after
+besides (lines.Join replica apex) after = Some after
+besides (lines.Pull replica supplier apex) after = Some after
+besides (lines.Pass replica apex) after = Some after
+besides (lines.Deliver packet) after = Some after
+besides (lines.At moment) after = Some (at_moment moment after)
+besides (lines.Admin replica apex cmd) after = Some after
+besides (lines.Ask replica name qtype) after = do
+  at ← replica_number after.0 replica
+  reply ← world_reply after.0.world at name qtype
+  Some (replied after reply)
+
+-- a line runs its events
+unfoldable pub run_line : Script → ScriptLine → Step
+run_line script line = do
+  events ← events_of script line
+  after ← run_events script events
+  besides line after
 
 -- The step of a script by the text of a line: none where the line isn't valid.
 unfoldable pub step_text : Script → List ℕ → Step
@@ -111,45 +135,45 @@ pub data Ending : Type 0 where
   Bad : ℕ → Ending
   Long : Ending
 
--- what a script prints, and how it ends
+abbrev pub events_or_none : Option (List WorldEvent) → List WorldEvent
+events_or_none None = []
+events_or_none (Some events) = events
+
+abbrev pub line_events : Script → Option ScriptLine → List WorldEvent
+line_events script None = []
+line_events script (Some line) = events_or_none (events_of script line)
+
+-- the events of a line by its text
+unfoldable pub text_events : Script → List ℕ → List WorldEvent
+text_events script text = if does_nothing text then [] else line_events script (line_of (words_of text))
+
+-- What a script does: the events of its valid lines, what it prints, the world behind them, and how it ends.
 pub record Played : Type 0 where
+  pub events : List WorldEvent
   pub text : List ℕ
+  pub world : World
   pub ending : Ending
 
-abbrev pub ends : Ending → Played
-ends ending = record { text = []; ending = ending }
+abbrev pub ends : Script → Ending → Played
+ends script ending = record { events = []; text = []; world = script.world; ending = ending }
 
-abbrev pub printing : List ℕ → Played → Played
-printing output rest = record { text = output ++ rest.text; ending = rest.ending }
+abbrev pub printing : List WorldEvent → List ℕ → Played → Played
+printing events output rest = record rest { events = events ++ rest.events; text = output ++ rest.text }
 
-abbrev pub after_step : ℕ → Step → (Script → Played) → Played
-after_step number None go_on = ends (Bad number)
-after_step number (Some (script, output)) go_on = printing output (go_on script)
+abbrev pub after_step : ℕ → Script → List WorldEvent → Step → (Script → Played) → Played
+after_step number script events None go_on = ends script (Bad number)
+after_step number script events (Some (now, output)) go_on = printing events output (go_on now)
 
 -- The play of lines, of which the first has this number and so many bytes of the input before it.
 unfoldable pub play_lines : ℕ → ℕ → List RawLine → Script → Played
-play_lines number before [] script = ends AtEnd
+play_lines number before [] script = ends script AtEnd
 play_lines number before (line ∷ rest) script =
-    if is_overlong before line then ends Long
-    else after_step number (step_text script (text_of line)) (play_lines (number + 1) (before + size_of line) rest)
+    if is_overlong before line then ends script Long
+    else after_step number script (text_events script (text_of line)) (step_text script (text_of line)) (play_lines (number + 1) (before + size_of line) rest)
 
 -- the play of a whole script
 unfoldable pub play : List ℕ → Played
 play bytes = play_lines 1 0 (lines_of bytes) opening
-
-abbrev pub script_behind : Script → Step → Script
-script_behind script None = script
-script_behind script (Some after) = after.0
-
--- The script behind so many of its lines. A line that isn't valid changes nothing.
-unfoldable pub script_after : ℕ → List RawLine → Script → Script
-script_after zero lines script = script
-script_after (suc count) [] script = script
-script_after (suc count) (line ∷ lines) script = script_after count lines (script_behind script (step_text script (text_of line)))
-
--- the world behind so many lines of a script
-abbrev pub world_after : ℕ → List ℕ → World
-world_after count bytes = (script_after count (lines_of bytes) opening).world
 
 -- A run with this status wrote what the play says. Here `left` is what is left of the input, and `before` and `now` are
 -- what was written, where the sink tells it.

@@ -12,5 +12,5 @@ mod replaying;
 mod script;
 mod words;
 
-pub use laws::{equal_replicas_answer_alike, passes_take_stale_records_alone, whole_passes_end};
+pub use laws::{a_play_is_one_run, whole_passes_end};
 pub use replaying::replay;

@@ -1,5 +1,5 @@
-ghost use Rattle.std.specs.Prelude.{◌≡◌};
-ghost use Rattle.dn_script.specs.Play.{opening, output_of, replica_number, run_event, run_line, step_text};
+ghost use Rattle.std.specs.Prelude.{◌≡◌, [], ◌∷◌};
+ghost use Rattle.dn_script.specs.Play.{opening, output_of, replica_number, run_events, run_line, step_text};
 ghost use Rattle.dn_script.specs.Play.Stepped.{Gives, GivesOrRefuses, Steps};
 
 use crate::bad::Bad;
@@ -64,9 +64,9 @@ impl Script {
     }
 
     // One event of the world, with its line of output.
-    #[tactic(auto, unfolding(crate::specs::Play::run_event))]
+    #[tactic(auto, unfolding(crate::specs::Play::run_events))]
     fn run_event(&mut self, alloc: Global, event: &WorldEvent) -> Result<List<u8>, Bad>
-        ensures step { Steps result self.new (run_event self.old event.now) }
+        ensures step { Steps result self.new (run_events self.old (event.now ∷ [])) }
         ensures names { self.new.names ≡ self.old.names }
     {
         let answer = self.world.step(alloc, event)?;
@@ -74,7 +74,7 @@ impl Script {
     }
 
     // `replica R ID HOST`
-    #[tactic(auto, unfolding(crate::specs::Play::run_line))]
+    #[tactic(auto, unfolding(crate::specs::Play::run_line, crate::specs::Play::events_of, crate::specs::Play::besides))]
     fn replica(
         &mut self,
         alloc: Global,
@@ -93,7 +93,7 @@ impl Script {
     }
 
     // `zone create R Z MAILBOX`
-    #[tactic(auto, unfolding(crate::specs::Play::run_line))]
+    #[tactic(auto, unfolding(crate::specs::Play::run_line, crate::specs::Play::events_of, crate::specs::Play::besides))]
     fn create(
         &mut self,
         alloc: Global,
@@ -114,7 +114,7 @@ impl Script {
     }
 
     // `zone join R Z`
-    #[tactic(auto, unfolding(crate::specs::Play::run_line))]
+    #[tactic(auto, unfolding(crate::specs::Play::run_line, crate::specs::Play::events_of, crate::specs::Play::besides))]
     fn join(&mut self, alloc: Global, replica: &[u8], apex: Name) -> Result<List<u8>, Bad>
         ensures { Steps result self.new (run_line self.old (ScriptLine.Join replica.now apex)) }
     {
@@ -123,7 +123,7 @@ impl Script {
     }
 
     // `pull R S Z`
-    #[tactic(auto, unfolding(crate::specs::Play::run_line))]
+    #[tactic(auto, unfolding(crate::specs::Play::run_line, crate::specs::Play::events_of, crate::specs::Play::besides))]
     fn pull(
         &mut self,
         alloc: Global,
@@ -139,7 +139,7 @@ impl Script {
     }
 
     // A whole pass over a zone.
-    #[tactic(auto, unfolding(crate::specs::Play::run_line, crate::specs::Play::run_pass))]
+    #[tactic(auto, unfolding(crate::specs::Play::run_line, crate::specs::Play::events_of, crate::specs::Play::besides, crate::specs::Play::run_events))]
     fn pass(&mut self, alloc: Global, replica: &[u8], apex: &Name) -> Result<List<u8>, Bad>
         ensures { Steps result self.new (run_line self.old (ScriptLine.Pass replica.now apex.now)) }
     {
@@ -149,7 +149,7 @@ impl Script {
     }
 
     // `admin R Z COMMAND`
-    #[tactic(auto, unfolding(crate::specs::Play::run_line))]
+    #[tactic(auto, unfolding(crate::specs::Play::run_line, crate::specs::Play::events_of, crate::specs::Play::besides))]
     fn admin(
         &mut self,
         alloc: Global,
@@ -172,7 +172,7 @@ impl Script {
     }
 
     // What a replica replies to a question.
-    #[tactic(auto, unfolding(crate::specs::Play::run_line))]
+    #[tactic(auto, unfolding(crate::specs::Play::run_line, crate::specs::Play::events_of, crate::specs::Play::besides))]
     fn ask(&self, alloc: Global, replica: &[u8], name: &Name, qtype: u16) -> Result<List<u8>, Bad>
         ensures { Steps result self.now (run_line self.now (ScriptLine.Ask replica.now name.now qtype)) }
     {
@@ -184,7 +184,7 @@ impl Script {
     }
 
     // Runs a line, and answers what it prints.
-    #[tactic(auto, unfolding(crate::specs::Play::run_line))]
+    #[tactic(auto, unfolding(crate::specs::Play::run_line, crate::specs::Play::events_of, crate::specs::Play::besides))]
     fn run_line(&mut self, alloc: Global, line: ScriptLine) -> Result<List<u8>, Bad>
         ensures { Steps result self.new (run_line self.old line) }
     {

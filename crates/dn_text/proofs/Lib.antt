@@ -2,3 +2,4 @@ pub mod AddressLemmas
 pub mod CallerLemmas
 pub mod NumberLemmas
 pub mod NumbersTextLemmas
+pub mod ReadValues

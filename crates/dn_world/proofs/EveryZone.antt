@@ -12,8 +12,9 @@ use Rattle.dn_zone.specs.declared.event.Event.TheVariants as zone_events
 use Rattle.dn_zone.specs.declared.zone.Zone.{Zone}
 use Rattle.dn_zone.specs.Merge.{pull_of}
 use Rattle.dn_zone.specs.Zone.{zstep}
-use Rattle.dn_zone.proofs.CallerLemmas.{Keeping, SoundZone, sound_ages}
+use Rattle.dn_zone.proofs.CallerLemmas.{Keeping, SoundZone, sound_ages, zones_sound}
 use Rattle.dn_world.specs.declared.event.WorldAnswer.{WorldAnswer}
+use Rattle.dn_world.specs.declared.event.WorldAnswer.TheVariants.{Made}
 use Rattle.dn_world.specs.declared.event.WorldEvent.{WorldEvent}
 use Rattle.dn_world.specs.declared.event.WorldEvent.TheVariants as events
 use Rattle.dn_world.specs.declared.event.WorldNo.{WorldNo}
@@ -21,7 +22,9 @@ use Rattle.dn_world.specs.declared.world.Post.{Post}
 use Rattle.dn_world.specs.declared.world.Replica.{Replica}
 use Rattle.dn_world.specs.declared.world.World.{World}
 use Rattle.dn_world.specs.Laws.{AgesRightly}
-use Rattle.dn_world.specs.World.{act_at, act_in, answer_pull, deliver_post, deliver_to, has_id, is_zone, no_room, packet_limit, post_at, pull_between, sent, wstep, wstep_act, wstep_pull, wstep_replica, wstep_zone, zone_of, zone_unless}
+use Rattle.dn_world.specs.Runs.{run_from, wrun}
+use Rattle.dn_world.specs.World.{act_at, act_in, answer_pull, deliver_post, deliver_to, empty_world, has_id, is_zone, no_room, packet_limit, post_at, pull_between, sent, wstep, wstep_act, wstep_pull, wstep_replica, wstep_zone, zone_of, zone_unless}
+use Rattle.dn_world.proofs.SlotLemmas.{all_get, all_one_more, all_set}
 
 module _ (P : Zone → Type 0) (keeping : Keeping P) where
   abbrev pub All : World → Type 0
@@ -29,22 +32,8 @@ module _ (P : Zone → Type 0) (keeping : Keeping P) where
 
   -- ---- the events of a world
 
-  all_one_more : (zones : List Zone) (zone : Zone) → AllByRecursion P zones → P zone → AllByRecursion P (zones ++ zone ∷ [])
-  all_one_more [] zone all holds = (holds, tt)
-  all_one_more (first ∷ rest) zone all holds = (all.0, all_one_more rest zone all.1 holds)
-
-  all_set : (zones : List Zone) (at : ℕ) (zone : Zone) → AllByRecursion P zones → P zone → AllByRecursion P (slice_set zones at zone)
-  all_set [] at zone all holds = all
-  all_set (first ∷ rest) zero zone all holds = (holds, all.1)
-  all_set (first ∷ rest) (suc at) zone all holds = (all.0, all_set rest at zone all.1 holds)
-
-  all_get : (zones : List Zone) (at : ℕ) (zone : Zone) → AllByRecursion P zones → slice_get zones at ≡ Some zone → P zone
-  all_get [] at zone all is = absurd (cc)
-  all_get (first ∷ rest) zero zone all is = let e : first ≡ zone = cc in subst P e all.0
-  all_get (first ∷ rest) (suc at) zone all is = all_get rest at zone all.1 is
-
   unless_by : (why : Option WorldNo) (world : World) (zone : Zone) → All world → P zone → All (zone_unless why world zone).0
-  unless_by None world zone all holds = all_one_more world.zones zone all holds
+  unless_by None world zone all holds = all_one_more P world.zones zone all holds
   unless_by (Some why) world zone all holds = all
 
   zone_made : (world : World) (replica : Option Replica) (apex : Labels) (make : Replica → Zone) → All world → ((replica : Replica) → P (make replica))
@@ -56,7 +45,7 @@ module _ (P : Zone → Type 0) (keeping : Keeping P) where
   acted_in : (world : World) (event : Event) (at : ℕ) (found : Option Zone) → slice_get world.zones at ≡ found → All world → All (act_in world event at found).0
   acted_in world event at None is all = all
   acted_in world event at (Some zone) is all =
-      all_set world.zones at (zstep zone event).0 all (keeping.event zone event (all_get world.zones at zone all is))
+      all_set P world.zones at (zstep zone event).0 all (keeping.event zone event (all_get P world.zones at zone all is))
 
   acted : (world : World) (event : Event) (at : Option ℕ) → All world → All (act_at world event at).0
   acted world event None all = all
@@ -123,6 +112,12 @@ module _ (P : Zone → Type 0) (keeping : Keeping P) where
   event_all world (events.Pull by of apex) all = pulled_by world (slice_get world.replicas by) (slice_get world.replicas of) apex all
   event_all world (events.Deliver number) all = delivered world (post_at world.packets number) all
 
+  -- ---- lists of events
+
+  pub run_all : (now : World × WorldAnswer) (list : List WorldEvent) → All now.0 → All (run_from now list).0
+  run_all now [] all = all
+  run_all now (event ∷ rest) all = run_all (wstep now.0 event) rest (event_all now.0 event all)
+
 -- one of a list of which all hold
 pub holds_among : (P : Zone → Type 0) (zones : List Zone) (zone : Zone) (at : ℕ) → AllByRecursion P zones → at < length zones → slice_index_or zones at zone ≡ zone → P zone
 holds_among P [] zone at all within is = absurd (omega arith)
@@ -133,3 +128,11 @@ holds_among P (first ∷ rest) zone (suc at) all within is = holds_among P rest 
 pub ages_rightly : (world : World) → AllByRecursion SoundZone world.zones → AgesRightly world
 ages_rightly world all zone there list =
     sound_ages zone list (holds_among SoundZone world.zones zone there.0 all there.1 there.2)
+
+-- every list of events runs to a world of sound zones
+pub run_sound : (list : List WorldEvent) → AllByRecursion SoundZone (wrun list).zones
+unfolding wrun empty_world
+run_sound list = run_all SoundZone zones_sound (empty_world, Made) list tt
+
+pub runs_age : (list : List WorldEvent) → AgesRightly (wrun list)
+runs_age list = ages_rightly (wrun list) (run_sound list)

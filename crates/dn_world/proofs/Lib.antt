@@ -1,3 +1,6 @@
 pub mod CallerLemmas
 pub mod EveryZone
+pub mod RunLemmas
+pub mod SlotLemmas
+pub mod ValidWorld
 pub mod WorldLemmas

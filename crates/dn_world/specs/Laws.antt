@@ -1,6 +1,6 @@
 -- What holds of every zone of a world: equal replicas answer alike, and passes take stale records alone.
 use Rattle.std.specs.Prelude.{List, Contains, ◌≡◌, ℕ}
-use Rattle.dn_name.specs.Name.{Labels, IsName}
+use Rattle.dn_name.specs.Name.{Labels}
 use Rattle.dn_answer.specs.Alike.{AreAlike, contents}
 use Rattle.dn_zone.specs.declared.event.Event.{Event}
 use Rattle.dn_zone.specs.declared.zone.Zone.{Zone}
@@ -19,5 +19,5 @@ AreEqual left right = (left.apex ≡ right.apex) × (contents left.table ≡ con
 -- In this world each two replicas with the same units of a zone answer each question alike.
 abbrev pub AnswersAlike : World → Type 0
 AnswersAlike world =
-    (left right : Zone) → Contains world.zones left → Contains world.zones right → IsName left.host → IsName right.host → AreEqual left right
+    (left right : Zone) → Contains world.zones left → Contains world.zones right → AreEqual left right
     → (name : Labels) (qtype : ℕ) → AreAlike (zone_reply left name qtype) (zone_reply right name qtype)

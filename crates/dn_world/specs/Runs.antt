@@ -1,24 +1,26 @@
 -- Worlds behind lists of events: which events are proper, and what a valid world is.
-use Rattle.std.specs.Prelude.{◌≡◌, ℕ, List, [], ◌∷◌}
+use Rattle.std.specs.Prelude.{ℕ, List, [], ◌∷◌}
 use Rattle.std.specs.List.{AllByRecursion}
 use Rattle.dn_name.specs.Name.{IsName}
 use Rattle.dn_link.specs.declared.packet.Packet.{Packet}
 use Rattle.dn_link.specs.declared.packet.Packet.TheVariants as packets
 use Rattle.dn_link.specs.Sent.{IsValidPull, IsValidRun}
 use Rattle.dn_zone.specs.Valid.{IsProperEvent, IsValidZone}
+use Rattle.dn_world.specs.declared.event.WorldAnswer.{WorldAnswer}
+use Rattle.dn_world.specs.declared.event.WorldAnswer.TheVariants.{Made}
 use Rattle.dn_world.specs.declared.event.WorldEvent.{WorldEvent}
 use Rattle.dn_world.specs.declared.event.WorldEvent.TheVariants as events
 use Rattle.dn_world.specs.declared.world.World.{World}
 use Rattle.dn_world.specs.World.{empty_world, wstep}
 
--- the world after a list of events, from a world
-abbrev pub wrun_from : World → List WorldEvent → World
-wrun_from world [] = world
-wrun_from world (event ∷ rest) = wrun_from (wstep world event).0 rest
+-- The world after a list of events and the last answer, from a world and the answer before.
+abbrev pub run_from : World × WorldAnswer → List WorldEvent → World × WorldAnswer
+run_from now [] = now
+run_from now (event ∷ rest) = run_from (wstep now.0 event) rest
 
 -- the world after a list of events, from the world without replicas
 unfoldable pub wrun : List WorldEvent → World
-wrun events = wrun_from empty_world events
+wrun events = (run_from (empty_world, Made) events).0
 
 -- A proper event: its names are names, and what is done to a zone is a command or a part of a pass within their limits. Changes
 -- are merged by the delivery of a packet that was sent, and by nothing else.

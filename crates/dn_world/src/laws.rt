@@ -1,14 +1,33 @@
-//! What holds of every world.
+//! What holds of the worlds that lists of events run to.
 
-ghost use Rattle.dn_world.specs.Laws.{AnswersAlike};
-ghost use Rattle.dn_world.specs.declared.world.World.{World};
+ghost use Rattle.std.specs.Prelude.{List};
+ghost use Rattle.dn_world.specs.Laws.{AgesRightly, AnswersAlike};
+ghost use Rattle.dn_world.specs.Runs.{AreProper, IsValidWorld, wrun};
+ghost use Rattle.dn_world.specs.declared.event.WorldEvent.{WorldEvent};
 
 use dn_answer::equal_replicas_answer_alike;
 
-/// The law that in any world two replicas whose units of a zone are equal by key, stamp and value give the same reply to
-/// each question, save for the primary server and the serial of an SOA: it stands in the contract, and nothing is changed.
+/// The law that proper events, in any order, run to a valid world: each host is a name, each zone is valid and so is each
+/// packet that was sent. It stands in the contract, and nothing runs.
+pub fn worlds_stay_valid()
+    ensures { (list : List WorldEvent) → AreProper list → IsValidWorld (wrun list) }
+{}
+
+/// The law that in the world behind any proper events two replicas whose units of a zone are equal by key, stamp and value
+/// give the same reply to each question, save for the primary server and the serial of an SOA. It stands in the contract,
+/// and nothing is changed.
 pub fn replicas_answer_alike()
-    ensures { (world : World) → AnswersAlike world }
+    ensures { (list : List WorldEvent) → AreProper list → AnswersAlike (wrun list) }
 {
     equal_replicas_answer_alike();
+    worlds_stay_valid();
 }
+
+/// The law of aging, in the world behind any events and over each list of events that may happen to one of its zones: before
+/// each step of a pass that isn't void the zone is due at the pass's hour, the records that a step takes away are stale at
+/// that hour and no other record changes, and a finished pass leaves no stale record on a node that nothing else has touched
+/// since it began, but for nodes at their last version, which it counted. A begin, and a step that is void or idle, change
+/// nothing. It stands in the contract, and nothing runs.
+pub fn zones_age_rightly()
+    ensures { (list : List WorldEvent) → AgesRightly (wrun list) }
+{}

@@ -8,5 +8,5 @@ mod replies;
 mod world;
 
 pub use event::{WorldAnswer, WorldEvent, WorldNo};
-pub use laws::replicas_answer_alike;
+pub use laws::{replicas_answer_alike, worlds_stay_valid, zones_age_rightly};
 pub use world::{Post, Replica, World};

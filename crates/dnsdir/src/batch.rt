@@ -1,13 +1,17 @@
 ghost use Rattle.std.specs.Prelude.{◌≡◌, ◌≢◌, ◌≤◌, ◌↔◌, ℕ, List, false, map};
 ghost use Rattle.dn_io.specs.Outside.{Rose, Told};
+ghost use Rattle.dn_world.specs.declared.event.WorldEvent.{WorldEvent};
 ghost use Rattle.dn_world.specs.Laws.{AgesRightly, AnswersAlike};
-ghost use Rattle.dn_script.specs.Play.{world_after};
+ghost use Rattle.dn_world.specs.Runs.{AreProper, IsValidWorld, wrun};
+ghost use Rattle.dn_script.specs.Laws.{IsOneRun};
+ghost use Rattle.dn_script.specs.Play.{play};
 ghost use Rattle.dnsdir.specs.Batch.{EndedAs, IsDoneOrWant, IsValid, is_batch};
 ghost use Rattle.dnsdir.specs.Command.{command_in};
 
 use crate::command::{Command, command_of};
 use dn_io::{Sink, Source, Status};
-use dn_script::{equal_replicas_answer_alike, passes_take_stale_records_alone, replay};
+use dn_script::{a_play_is_one_run, replay};
+use dn_world::{replicas_answer_alike, worlds_stay_valid, zones_age_rightly};
 use std::alloc::Global;
 
 /// Does what the words of the command line ask for, but for serving: reads the source, writes to the sink, and answers
@@ -42,17 +46,28 @@ pub fn batch<S: Source, K: Sink>(
         → ¬ Rose (K.faults sink.old) (K.faults sink.new)
         → IsDoneOrWant result) }
 
-    // In the world behind so many lines of any script, two replicas whose units of a zone are equal by key, stamp and value
-    // answer each question alike, save for the primary server and the serial of an SOA.
-    ensures alike { (script : List ℕ) (count : ℕ) → AnswersAlike (world_after count script) }
+    // The play of a script, of which `written` speaks, is one run: each of its events is proper, and its lines were answered
+    // in the world that these run to. That world is valid, its replicas answer alike, and its zones age rightly.
+    ensures run { (script : List ℕ) → IsOneRun (play script) }
 
-    // From there on, whatever events happen to a zone, before each step of a pass the zone is due at the pass's hour, the
-    // records that a step takes away are stale at that hour and no other record changes, and a finished pass leaves no
-    // stale record on a node that nothing else has touched, but for those at their last version, which it counted.
-    ensures aging { (script : List ℕ) (count : ℕ) → AgesRightly (world_after count script) }
+    // So it is behind any list of proper events, in any order: in the world that they run to, two replicas whose units of a
+    // zone are equal by key, stamp and value answer each question alike, save for the primary server and the serial of an SOA.
+    ensures alike { (list : List WorldEvent) → AreProper list → AnswersAlike (wrun list) }
+
+    // From there on, whatever events happen to a zone, before each step of a pass that isn't void the zone is due at the pass's
+    // hour, the records that a step takes away are stale at that hour and no other record changes, and a finished pass leaves
+    // no stale record on a node that nothing else has touched, but for those at their last version, which it counted. A begin,
+    // and a step that is void or idle, change no record.
+    ensures aging { (list : List WorldEvent) → AgesRightly (wrun list) }
+
+    // Each host is a name, each zone is valid (its units for its apex, under different numbers up to its change count), and so
+    // is each packet that was sent.
+    ensures valid { (list : List WorldEvent) → AreProper list → IsValidWorld (wrun list) }
 {
-    equal_replicas_answer_alike();
-    passes_take_stale_records_alone();
+    a_play_is_one_run();
+    worlds_stay_valid();
+    replicas_answer_alike();
+    zones_age_rightly();
     match command_of(words) {
         Command::Replay => replay(alloc, source, sink),
         _ => Status::Usage,

@@ -1,0 +1,18 @@
+use Rattle.std.proofs.Common.{◌≡◌, sym, subst}
+use Rattle.dn_world.specs.Laws.{AgesRightly, AnswersAlike}
+use Rattle.dn_world.specs.Runs.{AreProper, IsValidWorld, wrun}
+use Rattle.dn_script.specs.Play.{play}
+use Rattle.dn_script.proofs.PlayRuns.{play_proper, play_runs}
+use Rattle.dn_script.proofs.laws.a_play_is_one_run.Goals as goal
+
+pub returns : goal.returns
+returns c script =
+    let proper : AreProper (play script).events = play_proper script in
+    let world : (play script).world ≡ wrun (play script).events = play_runs script in
+    record {
+      proper = proper;
+      world = world;
+      valid = subst IsValidWorld (sym world) (c.worlds_stay_valid.ensures (play script).events proper);
+      alike = subst AnswersAlike (sym world) (c.replicas_answer_alike.ensures (play script).events proper);
+      aging = subst AgesRightly (sym world) (c.zones_age_rightly.ensures (play script).events);
+    }
