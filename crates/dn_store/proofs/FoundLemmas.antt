@@ -7,9 +7,9 @@ use Rattle.std.specs.Prelude.{IsSomeAnd}
 use Rattle.dn_store.specs.declared.unit.Unit as units
 use Rattle.dn_store.specs.declared.unit.UnitKey.{UnitKey}
 use Rattle.dn_store.specs.declared.unit.Write.{Write}
-use Rattle.dn_store.specs.Table.{AreWritten, IsOfWrite, KeysDiffer, KeysGrow, IsNotWritten, numbered, placed, taken, unit_at}
+use Rattle.dn_store.specs.Table.{AreWritten, IsOfWrite, KeysDiffer, KeysGrow, IsNotWritten, has_key, numbered, placed, taken, unit_at}
 use Rattle.dn_store.specs.Value.{key_order}
-use Rattle.dn_store.proofs.ListLemmas.{all_both}
+use Rattle.dn_store.proofs.ListLemmas.{all_both, found_passes}
 use Rattle.dn_store.proofs.OrderLemmas.{IsAfter, apart_first, key_back, key_same, key_total}
 use Rattle.dn_store.proofs.TakenLemmas.{where_placed}
 
@@ -26,6 +26,10 @@ found_all key (unit ∷ list) grow = (
   all_both (IsAfter unit.key) (IsFoundBy key list) (IsFoundBy key (unit ∷ list)) list (λ later less found same. rw (apart_first key unit.key later.key less same) (found same)) grow.0
       (found_all key list grow.1),
 )
+
+-- the unit that is found under a key has it
+pub key_at : (key : UnitKey) (list : List units.Unit) (unit : units.Unit) → unit_at key list ≡ Some unit → is_eq (key_order unit.key key) ≡ true
+key_at key list unit is = found_passes (has_key key) list unit is
 
 -- ---- a unit that was put
 

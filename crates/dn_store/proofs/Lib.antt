@@ -4,9 +4,11 @@ pub mod ByNumberLemmas
 pub mod CallerLemmas
 pub mod CountLemmas
 pub mod FoundLemmas
+pub mod FrontLemmas
 pub mod GrowingLemmas
 pub mod ListLemmas
 pub mod LowerCaseLemmas
+pub mod LoweredLemmas
 pub mod OrderLemmas
 pub mod PlaceLemmas
 pub mod RunLemmas
@@ -14,3 +16,4 @@ pub mod TableLemmas
 pub mod TakenCounts
 pub mod TakenLemmas
 pub mod TakenRows
+pub mod ValidLemmas

@@ -69,6 +69,18 @@ pub find_first : {X : Type 0} (test : X → Bool) (list : List X) → find test 
 find_first test [] = refl
 find_first test (one ∷ list) = ⊎_elim (λ is. rw is refl) (λ is. rw is (find_first test list)) (cases_Bool (test one))
 
+-- what holds of each holds of the one that is found
+pub all_found : {X : Type 0} (P : X → Type 0) (test : X → Bool) (list : List X) (one : X) → AllByRecursion P list → find test list ≡ Some one → P one
+all_found P test [] one all is = absurd (none-some one is)
+all_found P test (next ∷ rest) one all is =
+    cond_both (test next) (Some next) (find test rest) (λ found. found ≡ Some one → P one) (λ yes found. let e : next ≡ one = cc in subst P e all.0) (λ no found. all_found P test rest one all.1 found) is
+
+-- and that one passes
+pub found_passes : {X : Type 0} (test : X → Bool) (list : List X) (one : X) → find test list ≡ Some one → test one ≡ true
+found_passes test [] one is = absurd (none-some one is)
+found_passes test (next ∷ rest) one is =
+    cond_both (test next) (Some next) (find test rest) (λ found. found ≡ Some one → test one ≡ true) (λ yes found. let e : next ≡ one = cc in subst (λ other. test other ≡ true) e yes) (λ no found. found_passes test rest one found) is
+
 -- ---- fronts
 
 -- one more of a list

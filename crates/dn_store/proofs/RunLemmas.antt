@@ -1,19 +1,20 @@
--- What the runs of changes keep of a table: their keys differ and their values fit.
-use Rattle.std.proofs.Common.{◌≡◌, ℕ, ◌-◌, List, [], ◌∷◌, filter, map, refl, ap, sym, subst, ◌∙◌, nat_le, nat_lt, Bor, Bool, false}
-use Rattle.std.proofs.lemmas.Bool.{cond_both}
+-- What the runs of changes keep of a table: their keys differ, their values fit, and where they end.
+use Rattle.std.proofs.Common.{◌≡◌, ℕ, ◌*◌, ◌<◌, ◌≤◌, ◌==◌, List, [], ◌∷◌, filter, length, map, refl, ap, sym, subst, ◌∙◌, arith, nat_lt, Bor, Bool, true}
+use Rattle.std.proofs.lemmas.Bool.{cond_both, ltb-true}
 use Rattle.std.proofs.lemmas.Cmp.{eq_by_cmp_equiv}
+use Rattle.std.proofs.lemmas.List.{length-map}
 use Rattle.std.proofs.lemmas.List.Elements.{All-from_recursion, recursion_from_All}
 use Rattle.std.proofs.lemmas.List.Kept.{IsStrictlySortedBy-filter}
 use Rattle.std.proofs.lemmas.List.Sorted.{All-permutation, IsPermutation-cons, IsPermutation-middle, IsPermutation-refl, IsPermutation-sym, IsPermutation-trans}
 use Rattle.std.proofs.lemmas.Map.Keys.{IsDistinct-IsPermutation, IsDistinct-from_sorted}
-use Rattle.std.specs.Prelude.{IsTrue}
+use Rattle.std.specs.Prelude.{IsTrue, sum_by}
 use Rattle.std.specs.List.{AllByRecursion, IsDistinct}
 use Rattle.std.specs.List.Sorted.{IsPermutation}
-use Rattle.std.specs.Ordering.{eq_by_cmp}
 use Rattle.dn_store.specs.declared.unit.Unit as units
-use Rattle.dn_store.specs.Table.{KeysDiffer, KeysGrow, by_number, form_size, front_within, newer, placed_by_number, run_after, write_of}
+use Rattle.dn_store.specs.Table.{IsNumber, KeysDiffer, KeysGrow, by_number, form_size, front_within, last_number, newer, placed_by_number, run_after, write_of}
 use Rattle.dn_store.specs.Value.{fits}
-use Rattle.dn_store.proofs.ListLemmas.{all_filter, all_map}
+use Rattle.dn_store.proofs.FrontLemmas.{all_front, distinct_front, front_room, same, size_count}
+use Rattle.dn_store.proofs.ListLemmas.{all_both, all_filter, all_map, all_passes}
 use Rattle.dn_store.proofs.OrderLemmas.{differ_map, unit_order, unit_total}
 
 -- ---- the units by their numbers are the same ones
@@ -32,29 +33,20 @@ sorted_permutes (unit ∷ list) =
     IsPermutation-trans (unit ∷ list) (unit ∷ by_number list) (placed_by_number unit (by_number list)) (IsPermutation-cons unit list (by_number list) (sorted_permutes list))
     (placed_permutes unit (by_number list))
 
--- ---- a front of them
-
-all_front : (P : units.Unit → Type 0) (room : ℕ) (list : List units.Unit) → AllByRecursion P list → AllByRecursion P (front_within room list)
-all_front P room [] all = tt
-all_front P room (unit ∷ list) all =
-    let left : ℕ = room - form_size unit in
-    cond_both (nat_le (form_size unit) room) (unit ∷ front_within left list) [] (AllByRecursion P) (λ is. (all.0, all_front P left list all.1)) (λ is. tt)
-
--- whether two units have one key
-abbrev same : units.Unit → units.Unit → Bool
-same = eq_by_cmp unit_order
-
-distinct_front : (room : ℕ) (list : List units.Unit) → IsDistinct same list → IsDistinct same (front_within room list)
-unfolding IsDistinct
-distinct_front room [] apart = tt
-distinct_front room (unit ∷ list) apart =
-    let left : ℕ = room - form_size unit in
-    cond_both (nat_le (form_size unit) room) (unit ∷ front_within left list) [] (IsDistinct same) (λ is. (all_front (λ later. same unit later ≡ false) left list apart.0, distinct_front left list apart.1)) (λ is. tt)
-
 -- ---- runs
 
+-- what holds of each unit above the number
+pub run_each : (P : units.Unit → Type 0) (usn room top : ℕ) (list : List units.Unit) → AllByRecursion P (filter (λ unit. nat_lt usn unit.usn) list) → AllByRecursion P (run_after usn room top list).units
+run_each P usn room top list all =
+    let kept : List units.Unit = filter (λ unit. nat_lt usn unit.usn) list in
+    all_front P room (by_number kept) (recursion_from_All P (by_number kept) (All-permutation P kept (by_number kept) (sorted_permutes kept) (All-from_recursion P kept all)))
+
+-- what holds of each unit
+pub run_all : (P : units.Unit → Type 0) (usn room top : ℕ) (list : List units.Unit) → AllByRecursion P list → AllByRecursion P (run_after usn room top list).units
+run_all P usn room top list all = run_each P usn room top list (all_filter P (λ unit. nat_lt usn unit.usn) list all)
+
 -- the keys of a run differ
-run_differ : (usn room top : ℕ) (list : List units.Unit) → KeysGrow list → KeysDiffer (map write_of (run_after usn room top list).units)
+pub run_differ : (usn room top : ℕ) (list : List units.Unit) → KeysGrow list → KeysDiffer (map write_of (run_after usn room top list).units)
 run_differ usn room top list grow =
     let kept : List units.Unit = filter (λ unit. nat_lt usn unit.usn) list in
     let apart : IsDistinct same kept = IsDistinct-from_sorted unit_order kept (IsStrictlySortedBy-filter unit_order (λ unit. nat_lt usn unit.usn) list grow) in
@@ -65,12 +57,43 @@ run_differ usn room top list grow =
 run_fit : (usn room top : ℕ) (list : List units.Unit) → AllByRecursion (λ unit. IsTrue (fits unit.value)) list
     → AllByRecursion (λ write. IsTrue (fits write.value)) (map write_of (run_after usn room top list).units)
 run_fit usn room top list fitting =
-    let Fits : units.Unit → Type 0 = λ unit. IsTrue (fits unit.value) in
-    let kept : List units.Unit = filter (λ unit. nat_lt usn unit.usn) list in
-    let sorted : AllByRecursion Fits (by_number kept) =
-    recursion_from_All Fits (by_number kept)
-    (All-permutation Fits kept (by_number kept) (sorted_permutes kept) (All-from_recursion Fits kept (all_filter Fits (λ unit. nat_lt usn unit.usn) list fitting))) in
-    all_map (λ write. IsTrue (fits write.value)) write_of (front_within room (by_number kept)) (all_front Fits room (by_number kept) sorted)
+    all_map (λ write. IsTrue (fits write.value)) write_of (run_after usn room top list).units (run_all (λ unit. IsTrue (fits unit.value)) usn room top list fitting)
+
+-- ---- how many units a run has
+
+-- a unit takes at least 29 bytes
+pub run_room : (usn room top : ℕ) (list : List units.Unit) → 29 * length (map write_of (run_after usn room top list).units) ≤ room
+run_room usn room top list =
+    let run : List units.Unit = (run_after usn room top list).units in
+    let same_length : length (map write_of run) ≡ length run = length-map run write_of in
+    let size : sum_by form_size run ≤ room = front_room room (newer usn list) in
+    omega (arith, same_length, size, size_count run)
+
+pub run_short : (usn room top : ℕ) (list : List units.Unit) → length (map write_of (run_after usn room top list).units) ≤ room
+run_short usn room top list = omega (arith, run_room usn room top list)
+
+-- ---- where a run ends
+
+abbrev IsWithin : ℕ → ℕ → ℕ → Type 0
+IsWithin low high number = (low ≤ number) × (number ≤ high)
+
+last_within : (low high none : ℕ) (list : List units.Unit) → IsWithin low high none → AllByRecursion (λ unit. IsWithin low high unit.usn) list → IsWithin low high (last_number none list)
+last_within low high none [] within all = within
+last_within low high none (unit ∷ list) within all = last_within low high unit.usn list all.0 all.1
+
+-- not before the number that it begins behind, nor past the change count
+pub run_order : (usn room top : ℕ) (list : List units.Unit) → usn ≤ top → AllByRecursion (λ unit. IsNumber top unit.usn) list
+    → (usn ≤ (run_after usn room top list).to) × ((run_after usn room top list).to ≤ top)
+run_order usn room top list le numbers =
+    let is_newer : units.Unit → Bool = λ unit. nat_lt usn unit.usn in
+    let kept : List units.Unit = filter is_newer list in
+    let front : List units.Unit = front_within room (by_number kept) in
+    let above : AllByRecursion (λ unit. IsWithin usn top unit.usn) kept =
+    all_both (λ unit. is_newer unit ≡ true) (λ unit. IsNumber top unit.usn) (λ unit. IsWithin usn top unit.usn) kept
+    (λ unit more number. let lt : usn < unit.usn = ltb-true usn unit.usn more in (omega arith, number.1)) (all_passes is_newer list) (all_filter (λ unit. IsNumber top unit.usn) is_newer list numbers) in
+    let here : IsWithin usn top usn = (omega arith, le) in
+    cond_both (length front == length (by_number kept)) top (last_number usn front) (IsWithin usn top) (λ is. (le, omega arith))
+    (λ is. last_within usn top usn front here (run_each (λ unit. IsWithin usn top unit.usn) usn room top list above))
 
 -- ---- the same, for units as the calls saw them
 

@@ -16,17 +16,17 @@ use Rattle.dn_store.proofs.OrderLemmas.{IsAfter, key_total}
 use Rattle.dn_store.proofs.TakenLemmas.{IsSoundList, all_brought, sound_taken}
 
 -- a table stays a table after a whole batch
-pub table_taken : (list : List units.Unit) (top : ℕ) (batch : List Write) → AllByRecursion (λ write. IsTrue (fits write.value)) batch → top + length batch ≤ change_limit → IsTable list top
-    → IsTable (taken list top batch) (top + length batch)
-table_taken list top batch fit most table =
+pub table_taken : (list : List units.Unit) (top : ℕ) (writes : List Write) → top + length writes ≤ change_limit → AllByRecursion (λ write. IsTrue (fits write.value)) writes → IsTable list top
+    → IsTable (taken list top writes) (top + length writes)
+table_taken list top writes most fit table =
     let before : IsSoundList list top = record { ordered = table.ordered; numbers = table.numbers; differ = table.differ } in
-    let after : IsSoundList (taken list top batch) (top + length batch) = sound_taken list top batch before in
-    let brings = all_then (λ write. IsTrue (fits write.value)) (λ write. (number : ℕ) → top < number → IsTrue (fits write.value)) batch (λ write fits_in number above. fits_in) fit in
+    let after : IsSoundList (taken list top writes) (top + length writes) = sound_taken list top writes before in
+    let brings = all_then (λ write. IsTrue (fits write.value)) (λ write. (number : ℕ) → top < number → IsTrue (fits write.value)) writes (λ write fits_in number above. fits_in) fit in
     record {
       ordered = after.ordered;
       numbers = after.numbers;
       differ = after.differ;
-      fitting = all_brought (λ unit. IsTrue (fits unit.value)) list top batch brings table.fitting;
+      fitting = all_brought (λ unit. IsTrue (fits unit.value)) list top writes brings table.fitting;
       most = most;
     }
 

@@ -1,5 +1,5 @@
 -- Which units and writes are valid in the zone with an apex.
-use Rattle.std.specs.Prelude.{◌≡◌, ◌≤◌, true, IsTrue}
+use Rattle.std.specs.Prelude.{◌≡◌, true, IsTrue}
 use Rattle.dn_name.specs.Name.{Labels}
 use Rattle.dn_stamp.specs.declared.stamp.Stamp.{Stamp}
 use Rattle.dn_stamp.specs.Stamp.{IsVersion}

@@ -16,4 +16,4 @@ pub invariant_of-result : goal.invariant_of-result
 invariant_of-result c =
     let top : c.self.inside.top ≡ c.args.self.now.1 = ap (λ value. value.1) c.self.view_is in
     rw (c.of.ensures ∙ c.in_ok-take_writes.ensures, c.into_vec-units.ensures ∙ c.in_ok-copy.ensures, c.as_slice.ensures, c.len.ensures)
-    (table_taken c.self.inside.units c.self.inside.top c.args.batch.now c.requires.values (omega arith) c.self.invariant)
+    (table_taken c.self.inside.units c.self.inside.top c.args.batch.now (omega arith) c.requires.values c.self.invariant)
