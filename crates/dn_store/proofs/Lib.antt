@@ -9,8 +9,10 @@ pub mod GrowingLemmas
 pub mod ListLemmas
 pub mod LowerCaseLemmas
 pub mod LoweredLemmas
+pub mod NodeLemmas
 pub mod OrderLemmas
 pub mod PlaceLemmas
+pub mod RowLemmas
 pub mod RunLemmas
 pub mod TableLemmas
 pub mod TakenCounts

@@ -23,7 +23,7 @@ pub record IsSoundList (list : List units.Unit) (top : ℕ) : Type 0 where
 
 -- ---- a unit that is put into its place
 
-by_order : {A : Type 0} (P : A → Type 0) (o : Ordering) (x y z : A) → (o ≡ Less → P x) → (o ≡ Equal → P y) → (o ≡ Greater → P z) → P (match_ordering o x y z)
+pub by_order : {A : Type 0} (P : A → Type 0) (o : Ordering) (x y z : A) → (o ≡ Less → P x) → (o ≡ Equal → P y) → (o ≡ Greater → P z) → P (match_ordering o x y z)
 by_order P Less x y z less same more = less refl
 by_order P Equal x y z less same more = same refl
 by_order P Greater x y z less same more = more refl
