@@ -5,3 +5,4 @@ pub mod StepPlanLemmas
 pub mod StepProgress
 pub mod StepRows
 pub mod StepWrites
+pub mod ValidSweep

@@ -51,7 +51,7 @@ fits_becomes rules ticks (Live rows) fit =
 fits_becomes rules ticks (Tombstone since) fit = refl
 fits_becomes rules ticks Gone fit = refl
 
-fits_swept : (rules : ZoneRules) (ticks : ℕ) (id : ReplicaId) (unit : units.Unit) → IsTrue (fits unit.value) → IsTrue (fits (swept rules ticks id unit).value)
+pub fits_swept : (rules : ZoneRules) (ticks : ℕ) (id : ReplicaId) (unit : units.Unit) → IsTrue (fits unit.value) → IsTrue (fits (swept rules ticks id unit).value)
 unfolding swept
 fits_swept rules ticks id unit fit = fits_becomes rules ticks unit.value fit
 
