@@ -20,9 +20,9 @@ use Rattle.dn_zone.specs.declared.event.Answer.TheVariants as answers
 use Rattle.dn_zone.specs.declared.event.Event.{Event}
 use Rattle.dn_zone.specs.declared.event.Event.TheVariants as events
 use Rattle.dn_zone.specs.declared.zone.Zone.{Zone}
-use Rattle.dn_zone.specs.Aging.{Ages, EventAges, Given, StepAges, LeavesNone, StepOf, also_between, given_at_begin, given_behind, none_given, rules_at}
+use Rattle.dn_zone.specs.Aging.{Ages, EventAges, Given, StepAges, LeavesNone, LeavesUnits, StepOf, also_between, given_at_begin, given_behind, none_given, rules_at}
 use Rattle.dn_zone.specs.Creation.{created, first_writes, joined}
-use Rattle.dn_zone.specs.Outcome.{UnlessVoid, WhereOver, outcome_of}
+use Rattle.dn_zone.specs.Outcome.{OfVoid, WhereOver, outcome_of}
 use Rattle.dn_zone.specs.Zone.{begin_at, begin_step, begin_unless, finished, pass_step, step_by, step_of, swept_zone, zstep}
 use Rattle.dn_zone.proofs.AgingEvents.{Both, BothZone, admin_both, merge_both}
 use Rattle.dn_zone.proofs.AgingSound.{IsSound, Keeps, limit, properties_same, rules_same, sound_after, sound_begun, sound_without}
@@ -46,6 +46,19 @@ begin_by given zone moment (Some pass) is both = both
 begin_both : (given : Given) (zone : Zone) (moment : ℕ) → BothZone given zone → BothZone (given_behind given zone (events.Begin moment)) (begin_step zone moment).0
 unfolding begin_step
 begin_both given zone moment both = begin_by given zone moment zone.pass refl both
+
+-- no unit changes where a pass begins, nor where it doesn't
+begin_leaves_at : (zone : Zone) (moment : ℕ) (found : Option Pass) → LeavesUnits zone (begin_at zone moment found)
+begin_leaves_at zone moment None = refl
+begin_leaves_at zone moment (Some pass) = refl
+
+begin_leaves_by : (running : Option Pass) (zone : Zone) (moment : ℕ) → LeavesUnits zone (begin_unless running zone moment)
+begin_leaves_by None zone moment = begin_leaves_at zone moment (new_pass_if_due zone.table moment)
+begin_leaves_by (Some pass) zone moment = refl
+
+begin_leaves : (zone : Zone) (moment : ℕ) → LeavesUnits zone (begin_step zone moment)
+unfolding begin_step
+begin_leaves zone moment = begin_leaves_by zone.pass zone moment
 
 -- ---- a pass goes on
 
@@ -85,7 +98,7 @@ kept_in : (given : Given) (zone : Zone) (pass : Pass) → Running given zone pas
 kept_in given zone pass running = running.both.0.passing.kept running.old
 
 -- the change count would pass its limit: nothing happens
-refused_out : (given : Given) (zone : Zone) (pass : Pass) (answer : Answer) → Running given zone pass → UnlessVoid (outcome_of answer) (StepAges zone pass (also_between given zone.table.1 zone.table.1) (zone, answer))
+refused_out : (given : Given) (zone : Zone) (pass : Pass) (answer : Answer) → Running given zone pass → OfVoid (outcome_of answer) (LeavesUnits zone (zone, answer)) (StepAges zone pass (also_between given zone.table.1 zone.table.1) (zone, answer))
     → StepOut given zone (Some pass) (zone, answer)
 refused_out given zone pass answer running ages =
     record {
@@ -194,7 +207,7 @@ void_out : (void : Bool) (given : Given) (zone : Zone) (pass : Pass) (most : ℕ
 void_out true given zone pass most is running both =
     record {
       both = (sound_without zone.table.0 zone.table.1 (Some pass) both.0, still given zone.table.0 zone.table.1 (Some pass) both.1);
-      ages = tt;
+      ages = refl;
     }
 void_out false given zone pass most is running both =
     planned_out (is_last_step pass.after most zone.table.0) given zone pass most refl
@@ -206,7 +219,7 @@ step_out_by None given zone most is both =
     record {
       both = subst (λ (one : Option Pass). Both (also_between given zone.table.1 zone.table.1) zone.table.0 zone.table.1 one) (sym is)
           (sound_without zone.table.0 zone.table.1 zone.pass both.0, still given zone.table.0 zone.table.1 zone.pass both.1);
-      ages = tt;
+      ages = refl;
     }
 step_out_by (Some pass) given zone most is both =
     void_out (nat_lt pass.start (props_number zone.table.0)) given zone pass most refl is (subst (λ (one : Option Pass). Both given zone.table.0 zone.table.1 one) is both)
@@ -227,7 +240,7 @@ event_both given zone (events.Merge changes) both = merge_both given zone change
 event_ages : (given : Given) (zone : Zone) (event : Event) → BothZone given zone → EventAges zone given event
 unfolding zstep
 event_ages given zone (events.Admin cmd moment) both = tt
-event_ages given zone (events.Begin moment) both = tt
+event_ages given zone (events.Begin moment) both = begin_leaves zone moment
 event_ages given zone (events.Step most) both = (step_out given zone most both).ages
 event_ages given zone (events.Merge changes) both = tt
 
