@@ -7,7 +7,7 @@ use Rattle.dn_store.specs.Value.{fits}
 use Rattle.dn_zone.specs.Creation.{first_properties}
 use Rattle.dn_zone.specs.Settings.{property}
 
-first_fit : IsTrue (fits (Props first_properties))
+pub first_fit : IsTrue (fits (Props first_properties))
 unfolding first_properties property
 first_fit = refl
 

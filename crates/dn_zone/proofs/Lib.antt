@@ -10,4 +10,7 @@ pub mod Keeping
 pub mod OwnWrites
 pub mod SentLemmas
 pub mod SettingLemmas
+pub mod ValidCreation
+pub mod ValidEvents
+pub mod ValidSettings
 pub mod WinnerLemmas
