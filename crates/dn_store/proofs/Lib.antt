@@ -10,6 +10,7 @@ pub mod ListLemmas
 pub mod LowerCaseLemmas
 pub mod LoweredLemmas
 pub mod NodeLemmas
+pub mod NumberLemmas
 pub mod OrderLemmas
 pub mod PlaceLemmas
 pub mod RowLemmas

@@ -3,10 +3,11 @@ use Rattle.std.proofs.Common.{◌≡◌, ℕ, zero, suc, ◌+◌, ◌≤◌, Boo
 use Rattle.std.proofs.lemmas.Bool.{cases_Bool, cond_both, false_from_ne_true, false≢true, ltb-false}
 use Rattle.std.proofs.lemmas.List.{take_more}
 use Rattle.std.proofs.lemmas.List.Elements.{All-append, All-filter, All-from_recursion, All-get_or, All-map, All-take, All-weaker, filter_passes, recursion_from_All}
+use Rattle.std.proofs.lemmas.List.Sorted.{All-permutation}
 use Rattle.std.proofs.lemmas.List.Sums.{prefix_len-le-length}
 use Rattle.std.proofs.lemmas.Option.{get_or_from_slice_get, none-some, slice_get_cases, slice_get_within}
 use Rattle.std.specs.List.{All, AllByRecursion, position_or_len}
-use Rattle.std.specs.List.Sorted.{IsStrictlySortedBy}
+use Rattle.std.specs.List.Sorted.{IsPermutation, IsStrictlySortedBy}
 use Rattle.std.specs.Prelude.{nat_lt, not, position, slice_get, unwrap_or}
 use Rattle.std.specs.declared.cmp.Ordering.{Ordering}
 use Rattle.std.specs.declared.cmp.Ordering.TheVariants.{Less}
@@ -23,6 +24,10 @@ all_then P Q list on all = recursion_from_All Q list (All-weaker P Q on list (Al
 pub all_both : {X : Type 0} (P Q R : X → Type 0) (list : List X) → ((one : X) → P one → Q one → R one) → AllByRecursion P list → AllByRecursion Q list → AllByRecursion R list
 all_both P Q R [] on left right = tt
 all_both P Q R (one ∷ list) on left right = (on one left.0 right.0, all_both P Q R list on left.1 right.1)
+
+-- in another order
+pub all_permuted : {X : Type 0} (P : X → Type 0) (xs ys : List X) → IsPermutation xs ys → AllByRecursion P xs → AllByRecursion P ys
+all_permuted P xs ys same all = recursion_from_All P ys (All-permutation P xs ys same (All-from_recursion P xs all))
 
 pub all_at : {X : Type 0} (P : X → Type 0) (list : List X) (at : ℕ) (one : X) → AllByRecursion P list → slice_get list at ≡ Some one → P one
 all_at P list at one all is = subst P (get_or_from_slice_get list at one one is) (All-get_or P list at one (slice_get_within list at one is) (All-from_recursion P list all))

@@ -1,37 +1,24 @@
--- What the runs of changes keep of a table: their keys differ, their values fit, and where they end.
-use Rattle.std.proofs.Common.{◌≡◌, ℕ, ◌*◌, ◌<◌, ◌≤◌, ◌==◌, List, [], ◌∷◌, filter, length, map, refl, ap, sym, subst, ◌∙◌, arith, nat_lt, Bor, Bool, true}
+-- What the runs of changes keep of a table, how many units they have, where they end, and which units they leave over.
+use Rattle.std.proofs.Common.{◌≡◌, ℕ, ◌+◌, ◌*◌, ◌<◌, ◌≤◌, ◌==◌, if◌then◌else◌, List, [], ◌∷◌, ◌++◌, filter, length, map, refl, ap, sym, subst, ◌∙◌, arith, nat_lt, Bool, true, false}
 use Rattle.std.proofs.lemmas.Bool.{cond_both, ltb-true}
+use Rattle.std.proofs.lemmas.Bool.Decides.{nat_tests}
 use Rattle.std.proofs.lemmas.Cmp.{eq_by_cmp_equiv}
-use Rattle.std.proofs.lemmas.List.{length-map}
-use Rattle.std.proofs.lemmas.List.Elements.{All-from_recursion, recursion_from_All}
+use Rattle.std.proofs.lemmas.List.{length-append, length-map}
 use Rattle.std.proofs.lemmas.List.Kept.{IsStrictlySortedBy-filter}
-use Rattle.std.proofs.lemmas.List.Sorted.{All-permutation, IsPermutation-cons, IsPermutation-middle, IsPermutation-refl, IsPermutation-sym, IsPermutation-trans}
+use Rattle.std.proofs.lemmas.Result.{IfOk-weaker}
 use Rattle.std.proofs.lemmas.Map.Keys.{IsDistinct-IsPermutation, IsDistinct-from_sorted}
-use Rattle.std.specs.Prelude.{IsTrue, sum_by}
+use Rattle.std.specs.Prelude.{IfOk, IsTrue, Result, sum_by}
 use Rattle.std.specs.List.{AllByRecursion, IsDistinct}
-use Rattle.std.specs.List.Sorted.{IsPermutation}
+use Rattle.std.specs.List.Sorted.{IsPermutation, IsStrictlySortedBy}
+use Rattle.dn_store.specs.declared.table.ChangeRun.{ChangeRun}
 use Rattle.dn_store.specs.declared.unit.Unit as units
-use Rattle.dn_store.specs.Table.{IsNumber, KeysDiffer, KeysGrow, by_number, form_size, front_within, last_number, newer, placed_by_number, run_after, write_of}
+use Rattle.dn_store.specs.Run.{IsRun, reached, usn_order}
+use Rattle.dn_store.specs.Table.{Differ, IsNumber, KeysDiffer, KeysGrow, by_number, form_size, front_within, last_number, newer, run_after, write_of}
 use Rattle.dn_store.specs.Value.{fits}
-use Rattle.dn_store.proofs.FrontLemmas.{all_front, distinct_front, front_room, same, size_count}
-use Rattle.dn_store.proofs.ListLemmas.{all_both, all_filter, all_map, all_passes}
+use Rattle.dn_store.proofs.FrontLemmas.{all_front, behind_front, distinct_front, front_over, front_room, front_split, same, size_count}
+use Rattle.dn_store.proofs.ListLemmas.{all_both, all_filter, all_map, all_passes, all_permuted}
+use Rattle.dn_store.proofs.NumberLemmas.{differ_filter, grow_by_number, sorted_permutes}
 use Rattle.dn_store.proofs.OrderLemmas.{differ_map, unit_order, unit_total}
-
--- ---- the units by their numbers are the same ones
-
-placed_permutes : (unit : units.Unit) (list : List units.Unit) → IsPermutation (unit ∷ list) (placed_by_number unit list)
-placed_permutes unit [] = IsPermutation-refl (unit ∷ [])
-placed_permutes unit (next ∷ rest) =
-    let swapped : IsPermutation (unit ∷ next ∷ rest) (next ∷ unit ∷ rest) = IsPermutation-sym (next ∷ unit ∷ rest) (unit ∷ next ∷ rest) (IsPermutation-middle (next ∷ []) unit rest) in
-    cond_both (nat_lt unit.usn next.usn) (unit ∷ next ∷ rest) (next ∷ placed_by_number unit rest) (IsPermutation (unit ∷ next ∷ rest)) (λ is. IsPermutation-refl (unit ∷ next ∷ rest))
-    (λ is. IsPermutation-trans (unit ∷ next ∷ rest) (next ∷ unit ∷ rest) (next ∷ placed_by_number unit rest) swapped
-    (IsPermutation-cons next (unit ∷ rest) (placed_by_number unit rest) (placed_permutes unit rest)))
-
-sorted_permutes : (list : List units.Unit) → IsPermutation list (by_number list)
-sorted_permutes [] = IsPermutation-refl []
-sorted_permutes (unit ∷ list) =
-    IsPermutation-trans (unit ∷ list) (unit ∷ by_number list) (placed_by_number unit (by_number list)) (IsPermutation-cons unit list (by_number list) (sorted_permutes list))
-    (placed_permutes unit (by_number list))
 
 -- ---- runs
 
@@ -39,7 +26,7 @@ sorted_permutes (unit ∷ list) =
 pub run_each : (P : units.Unit → Type 0) (usn room top : ℕ) (list : List units.Unit) → AllByRecursion P (filter (λ unit. nat_lt usn unit.usn) list) → AllByRecursion P (run_after usn room top list).units
 run_each P usn room top list all =
     let kept : List units.Unit = filter (λ unit. nat_lt usn unit.usn) list in
-    all_front P room (by_number kept) (recursion_from_All P (by_number kept) (All-permutation P kept (by_number kept) (sorted_permutes kept) (All-from_recursion P kept all)))
+    all_front P room (by_number kept) (all_permuted P kept (by_number kept) (sorted_permutes kept) all)
 
 -- what holds of each unit
 pub run_all : (P : units.Unit → Type 0) (usn room top : ℕ) (list : List units.Unit) → AllByRecursion P list → AllByRecursion P (run_after usn room top list).units
@@ -54,7 +41,7 @@ run_differ usn room top list grow =
     (distinct_front room (by_number kept) (IsDistinct-IsPermutation same (eq_by_cmp_equiv unit_total).symm kept (by_number kept) (sorted_permutes kept) apart))
 
 -- the values of a run fit
-run_fit : (usn room top : ℕ) (list : List units.Unit) → AllByRecursion (λ unit. IsTrue (fits unit.value)) list
+pub run_fit : (usn room top : ℕ) (list : List units.Unit) → AllByRecursion (λ unit. IsTrue (fits unit.value)) list
     → AllByRecursion (λ write. IsTrue (fits write.value)) (map write_of (run_after usn room top list).units)
 run_fit usn room top list fitting =
     all_map (λ write. IsTrue (fits write.value)) write_of (run_after usn room top list).units (run_all (λ unit. IsTrue (fits unit.value)) usn room top list fitting)
@@ -95,23 +82,31 @@ run_order usn room top list le numbers =
     cond_both (length front == length (by_number kept)) top (last_number usn front) (IsWithin usn top) (λ is. (le, omega arith))
     (λ is. last_within usn top usn front here (run_each (λ unit. IsWithin usn top unit.usn) usn room top list above))
 
--- ---- the same, for units as the calls saw them
+-- ---- a run beside its table
 
-abbrev now : Bor units.Unit → units.Unit
-now unit = unit.now
+reached_by : (top last count all : ℕ) (rest : List units.Unit) → all ≡ count + length rest → (if count == all then top else last) ≡ reached top last rest
+reached_by top last count all [] is = let e : (count == all) ≡ true = grind (arith, nat_tests) in rw e refl
+reached_by top last count all (unit ∷ rest) is = let e : (count == all) ≡ false = grind (arith, nat_tests) in rw e refl
 
-front_seen : (usn room : ℕ) (front seen inside : List units.Unit) (first sorted : List (Bor units.Unit)) → front ≡ front_within room (map now first) → first ≡ sorted
-    → map now sorted ≡ newer usn seen → seen ≡ inside → front ≡ front_within room (newer usn inside)
-front_seen usn room front seen inside first sorted is same newest view = is ∙ ap (front_within room) (ap (map now) same ∙ newest ∙ ap (newer usn) view)
+pub run_is : (usn room top : ℕ) (list : List units.Unit) → Differ (map (λ unit. unit.usn) list) → IsRun usn room top list (run_after usn room top list)
+run_is usn room top list differ =
+    let is_newer : units.Unit → Bool = λ unit. nat_lt usn unit.usn in
+    let kept : List units.Unit = filter is_newer list in
+    let all : List units.Unit = by_number kept in
+    let front : List units.Unit = front_within room all in
+    let rest : List units.Unit = behind_front room all in
+    let split : all ≡ front ++ rest = sym (front_split room all) in
+    record {
+      rest = rest;
+      whole = subst (IsPermutation kept) split (sorted_permutes kept);
+      ordered = subst (IsStrictlySortedBy usn_order) split (grow_by_number kept (differ_filter is_newer list differ));
+      within = front_room room all;
+      full = front_over room all;
+      end = reached_by top (last_number usn front) (length front) (length all) rest (ap length split ∙ length-append front rest);
+    }
 
-pub differ_seen : (usn room top : ℕ) (front seen inside : List units.Unit) (first sorted : List (Bor units.Unit)) → front ≡ front_within room (map now first) → first ≡ sorted
-    → map now sorted ≡ newer usn seen → seen ≡ inside → KeysGrow inside → KeysDiffer (map write_of front)
-differ_seen usn room top front seen inside first sorted is same newest view grow =
-    let e : front ≡ front_within room (newer usn inside) = front_seen usn room front seen inside first sorted is same newest view in
-    subst (λ (list : List units.Unit). KeysDiffer (map write_of list)) (sym e) (run_differ usn room top inside grow)
-
-pub fit_seen : (usn room top : ℕ) (front seen inside : List units.Unit) (first sorted : List (Bor units.Unit)) → front ≡ front_within room (map now first) → first ≡ sorted
-    → map now sorted ≡ newer usn seen → seen ≡ inside → AllByRecursion (λ unit. IsTrue (fits unit.value)) inside → AllByRecursion (λ write. IsTrue (fits write.value)) (map write_of front)
-fit_seen usn room top front seen inside first sorted is same newest view fitting =
-    let e : front ≡ front_within room (newer usn inside) = front_seen usn room front seen inside first sorted is same newest view in
-    subst (λ (list : List units.Unit). AllByRecursion (λ write. IsTrue (fits write.value)) (map write_of list)) (sym e) (run_fit usn room top inside fitting)
+-- what holds of the run of a table holds of a result that is the run of the table's units as a call saw them
+pub run_seen : {E : Type 0} (P : ChangeRun → Type 0) (usn room top : ℕ) (seen inside : List units.Unit) (result : Result ChangeRun E) → IfOk result (λ run. run ≡ run_after usn room top seen)
+    → seen ≡ inside → P (run_after usn room top inside) → IfOk result P
+run_seen P usn room top seen inside result is view holds =
+    IfOk-weaker result (λ run. run ≡ run_after usn room top seen) P (λ run e. subst P (sym (e ∙ ap (run_after usn room top) view)) holds) is

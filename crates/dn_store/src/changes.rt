@@ -1,8 +1,8 @@
 ghost use Rattle.std.specs.Prelude.{◌≡◌, ◌-◌, ◌≤◌, nat_le, nat_lt, position, if◌then◌else◌, map, Some, None, OnOk, IfOk};
 ghost use Rattle.std.specs.List.{position_or_len};
-ghost use Rattle.dn_store.specs.Table.{form_size, front_within, key_size, last_number, newer, placed_by_number};
+ghost use Rattle.dn_store.specs.Table.{form_size, front_within, key_size, last_number, newer, placed_by_number, run_after};
 
-use crate::{Unit, UnitKey, value_len};
+use crate::{ChangeRun, Unit, UnitKey, value_len};
 use dn_io::{Duplicate, List, OutOfMemory};
 use std::alloc::Global;
 
@@ -29,7 +29,7 @@ fn room_after(room: usize, unit: &Unit) -> Option<usize>
 }
 
 // A copy of the longest front of the units that takes at most `room` bytes.
-pub fn front_of(alloc: Global, room: usize, sorted: &[&Unit]) -> Result<List<Unit>, OutOfMemory>
+fn front_of(alloc: Global, room: usize, sorted: &[&Unit]) -> Result<List<Unit>, OutOfMemory>
     ensures { IfOk result (λ front. front ≡ front_within room (map (λ unit. unit.now) sorted.now)) }
 {
     let mut front = List::new(alloc);
@@ -67,11 +67,7 @@ fn insert_by_number<'a>(sorted: &mut Vec<&'a Unit>, unit: &'a Unit) -> Result<()
 }
 
 // The units above a number, in the order of their numbers.
-pub fn newer_units<'a>(
-    alloc: Global,
-    usn: u64,
-    units: &'a [Unit],
-) -> Result<Vec<&'a Unit>, OutOfMemory>
+fn newer_units<'a>(alloc: Global, usn: u64, units: &'a [Unit]) -> Result<Vec<&'a Unit>, OutOfMemory>
     ensures { IfOk result (λ sorted. map (λ unit. unit.now) sorted.items ≡ newer usn units.now) }
 {
     let mut sorted: Vec<&Unit> = Vec::new(alloc);
@@ -85,7 +81,7 @@ pub fn newer_units<'a>(
 }
 
 // The number of the last unit, `none` where there is none.
-pub fn last_of(none: u64, units: &[Unit]) -> u64
+fn last_of(none: u64, units: &[Unit]) -> u64
     ensures { result ≡ last_number none units.now }
 {
     let mut last = none;
@@ -93,4 +89,24 @@ pub fn last_of(none: u64, units: &[Unit]) -> u64
         last = unit.usn;
     }
     last
+}
+
+// The run of changes above a number, of the units of a table with this change count.
+pub fn run_of(
+    alloc: Global,
+    usn: u64,
+    room: usize,
+    top: u64,
+    units: &[Unit],
+) -> Result<ChangeRun, OutOfMemory>
+    ensures { IfOk result (λ run. run ≡ run_after usn room top units.now) }
+{
+    let sorted = newer_units(alloc, usn, units)?;
+    let front = front_of(alloc, room, sorted.as_slice())?;
+    let to = if front.len() == sorted.len() {
+        top
+    } else {
+        last_of(usn, front.as_slice())
+    };
+    Ok(ChangeRun { to, units: front })
 }

@@ -1,10 +1,11 @@
 ghost use Rattle.std.specs.Prelude.{◌≡◌, ◌≤◌, ◌+◌, ℕ, [], length, map, nat_lt, option_copied, IfOk, IsTrue};
 ghost use Rattle.std.specs.List.{AllByRecursion};
+ghost use Rattle.dn_store.specs.Run.{IsRun};
 ghost use Rattle.dn_store.specs.Table.{AreWritten, IsLeastAbove, IsNotWritten, IsTable, KeysDiffer, change_limit, run_after, taken, unit_above, unit_at, write_of};
 ghost use Rattle.dn_store.specs.declared.unit.UnitKey.{UnitKey};
 ghost use Rattle.dn_store.specs.Value.{fits};
 
-use crate::changes::{front_of, last_of, newer_units};
+use crate::changes::run_of;
 use crate::order::{find_above, find_key, take_writes};
 use crate::{Unit, UnitKey, Write};
 use dn_io::{Duplicate, List, OutOfMemory};
@@ -135,17 +136,12 @@ impl Table {
         requires usn { usn ≤ self.now.1 }
         requires room { 61000 ≤ room }
         ensures run { IfOk result (λ run. run ≡ run_after usn room self.now.1 self.now.0) }
+        // So it is the longest front of the changes above the number, by growing numbers, that there is room for.
+        ensures longest { IfOk result (λ run. IsRun usn room self.now.1 self.now.0 run) }
         // So the units, taken as writes, make a batch for `put`: their keys differ and their values fit.
         ensures differ { IfOk result (λ run. KeysDiffer (map write_of run.units)) }
         ensures fit { IfOk result (λ run. AllByRecursion (λ write. IsTrue (fits write.value)) (map write_of run.units)) }
     {
-        let sorted = newer_units(self.alloc, usn, self.units.as_slice())?;
-        let front = front_of(self.alloc, room, sorted.as_slice())?;
-        let to = if front.len() == sorted.len() {
-            self.top
-        } else {
-            last_of(usn, front.as_slice())
-        };
-        Ok(ChangeRun { to, units: front })
+        run_of(self.alloc, usn, room, self.top, self.units.as_slice())
     }
 }
