@@ -1,5 +1,5 @@
 -- Each command that words are is a proper one.
-use Rattle.std.proofs.Common.{◌≡◌, ℕ, true, false, nat_eq, codes, List, [], ◌∷◌, Option, None, Some, refl}
+use Rattle.std.proofs.Common.{◌≡◌, ◌≤◌, ℕ, true, false, nat_eq, codes, List, [], ◌∷◌, Option, None, Some, refl}
 use Rattle.dn_io.specs.Options.{◌>>=◌}
 use Rattle.dn_rdata.specs.Types.{A, answerable}
 use Rattle.dn_zone.specs.declared.event.AdminCmd.{AdminCmd}
