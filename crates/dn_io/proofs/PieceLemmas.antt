@@ -1,6 +1,6 @@
 -- Pieces of bytes, taken from the front.
-use Rattle.std.proofs.Common.{◌≡◌, ℕ, ◌+◌, List, ◌++◌, take, drop, Option, None, Some, sym, ◌∙◌, ap, append_assoc}
-use Rattle.std.proofs.lemmas.List.{drop-drop, take-append-drop}
+use Rattle.std.proofs.Common.{◌≡◌, ℕ, ◌+◌, List, ◌++◌, [], ◌<◌, length, take, drop, Option, None, Some, sym, ◌∙◌, ap, append_assoc, arith}
+use Rattle.std.proofs.lemmas.List.{drop-drop, length-append, take-append-drop}
 use Rattle.dn_io.specs.Reading.{Appended}
 
 -- what a read moves, and what is left
@@ -15,3 +15,10 @@ appended-more (Some xs) None after bytes rest new_rest a b = absurd a.grown
 appended-more (Some xs) (Some ys) None bytes rest new_rest a b = absurd b.grown
 appended-more (Some xs) (Some ys) (Some zs) bytes rest new_rest a b =
     record { front = a.front ++ b.front; split = rw (a.split, b.split) (sym (append_assoc a.front b.front new_rest)); grown = rw (b.grown, a.grown) (append_assoc xs a.front b.front) }
+
+-- no rest is left of nothing
+pub appended-nothing : (before now : Option (List ℕ)) (bytes rest : List ℕ) → Appended before now bytes rest → bytes ≡ [] → 0 < length rest → ⊥
+appended-nothing before now bytes rest a none some =
+    let e : length bytes ≡ length a.front + length rest = ap length a.split ∙ length-append a.front rest in
+    let z : length bytes ≡ 0 = ap length none in
+    omega (arith, e, z, some)

@@ -1,5 +1,5 @@
 -- The lines of an input, and what one call of a reader of lines does.
-use Rattle.std.specs.Prelude.{◌≡◌, ℕ, ◌+◌, ◌<◌, ◌≤◌, ◌^◌, Bool, true, false, ◌||◌, if◌then◌else◌, ◌==◌, nat_lt, List, [], ◌∷◌, ◌++◌, length, Option, None, Some, ⊤, MatchOption, Result, Ok, Err}
+use Rattle.std.specs.Prelude.{◌≡◌, ℕ, ◌+◌, ◌<◌, ◌≤◌, ◌^◌, min, Bool, true, false, ◌||◌, if◌then◌else◌, ◌==◌, nat_lt, List, [], ◌∷◌, ◌++◌, length, Option, None, Some, ⊤, MatchOption, Result, Ok, Err}
 use Rattle.dn_io.specs.declared.line.Line.{Line}
 use Rattle.dn_io.specs.declared.line.Line.TheVariants.{Text, End}
 use Rattle.dn_io.specs.declared.line.LineError.{LineError}
@@ -45,6 +45,10 @@ pub record Held : Type 0 where
   pub taken : ℕ
   pub kept : Option LineError
 
+-- Nothing is lost: what was read stands behind what was held, and no line was taken.
+abbrev pub HoldsAll : Held → List ℕ → Held → List ℕ → Type 0
+HoldsAll old before new now = (read : List ℕ) × (new.bytes ≡ old.bytes ++ read) × (before ≡ read ++ now) × (new.taken ≡ old.taken)
+
 -- A call that found no kept error gave this, where the source had `before` left and then `now`.
 abbrev pub ReadsLine : Held → List ℕ → Result Line LineError → Held → List ℕ → Type 0
 ReadsLine old before (Ok End) new now = (old.bytes ++ before ≡ []) × (new ≡ old) × (now ≡ [])
@@ -57,8 +61,15 @@ ReadsLine old before (Ok (Text text)) new now =
     × (new.kept ≡ None)
 ReadsLine old before (Err faults.TooLong) new now =
     (line : RawLine) × (lines : List RawLine) × (lines_of (old.bytes ++ before) ≡ line ∷ lines) × (is_overlong old.taken line ≡ true)
-ReadsLine old before (Err faults.ReadFault) new now = ⊤
-ReadsLine old before (Err faults.OutOfMemory) new now = ⊤
+ReadsLine old before (Err faults.ReadFault) new now = HoldsAll old before new now
+ReadsLine old before (Err faults.OutOfMemory) new now = HoldsAll old before new now
+
+-- the source's count of faults behind a call that reads: one more at a read fault, up to the count's end, and else as it was
+abbrev pub read_faults_after : {T : Type 0} → ℕ → Result T LineError → ℕ
+read_faults_after before (Ok value) = before
+read_faults_after before (Err faults.TooLong) = before
+read_faults_after before (Err faults.OutOfMemory) = before
+read_faults_after before (Err faults.ReadFault) = min (before + 1) (2 ^ 63)
 
 -- an error is kept from then on, and no answer but an error leaves one
 abbrev pub KeepsError : Result Line LineError → Held → Type 0

@@ -1,13 +1,18 @@
 -- What a source and a sink do to the bytes that they have left and were given, and how their faults are counted.
-use Rattle.std.specs.Prelude.{◌≡◌, ℕ, ◌+◌, ◌^◌, ◌<◌, ◌≤◌, min, List, ◌++◌, length, Option, None, Some, ⊤, IfOk, OnErr, Result}
+use Rattle.std.specs.Prelude.{◌≡◌, ℕ, ◌+◌, ◌^◌, ◌<◌, ◌≤◌, if◌then◌else◌, min, List, ◌++◌, length, Option, None, Some, ⊤, IfOk, OnErr, Result, is_err}
 use Rattle.std.specs.Io.KnownBytes.{Appends}
 
 -- A count of faults has risen, or stands at its end, 2^63.
 abbrev pub Rose : ℕ → ℕ → Type 0
 Rose before now = min (before + 1) (2 ^ 63) ≤ now
 
--- The count doesn't fall, and a failure is told only where it has risen.
+-- the count behind a call: one more where the call failed, up to the count's end, and else as it was
+abbrev pub faults_after : {T E : Type 0} → ℕ → Result T E → ℕ
+faults_after before result = if is_err result then min (before + 1) (2 ^ 63) else before
+
+-- Each failure is counted once and nothing else is; so the count doesn't fall, and a failure is told only where it has risen.
 pub record HasCause {T E : Type 0} (before now : ℕ) (result : Result T E) : Type 0 where
+  pub exact : now ≡ faults_after before result
   pub later : before ≤ now
   pub failed : OnErr result (Rose before now)
 

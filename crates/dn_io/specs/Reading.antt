@@ -1,5 +1,5 @@
 -- What the steps of a write and of a reader of lines do.
-use Rattle.std.specs.Prelude.{◌≡◌, ℕ, ◌+◌, ◌^◌, ◌<◌, Bool, true, false, ◌||◌, ◌==◌, nat_lt, slice_index, List, ◌++◌, [], ◌∷◌, length, Option, None, Some, ⊤, Result, Ok, Err}
+use Rattle.std.specs.Prelude.{◌≡◌, ℕ, ◌+◌, ◌^◌, ◌<◌, Bool, true, false, ◌||◌, ◌==◌, nat_lt, slice_index, List, ◌++◌, [], ◌∷◌, length, Option, None, Some, Result, Ok, Err}
 use Rattle.std.specs.Io.KnownBytes.{Appends, Consumes}
 use Rattle.dn_io.specs.declared.line.Line.{Line}
 use Rattle.dn_io.specs.declared.line.Line.TheVariants.{Text, End}
@@ -56,7 +56,7 @@ IsTooLong old taken = (rest : List ℕ) → (line : RawLine) × (lines : List Ra
 abbrev pub Cuts : List ℕ → ℕ → Result (List ℕ) LineError → List ℕ → ℕ → Type 0
 Cuts old taken (Ok text) new now = TakesLine old taken text new now
 Cuts old taken (Err TooLong) new now = IsTooLong old taken
-Cuts old taken (Err OutOfMemory) new now = ⊤
+Cuts old taken (Err OutOfMemory) new now = (new ≡ old) × (now ≡ taken)
 Cuts old taken (Err ReadFault) new now = ⊥
 
 -- a line is taken off the front of what is held, where it has one
@@ -64,7 +64,7 @@ abbrev pub Takes : List ℕ → ℕ → Result (Option (List ℕ)) LineError →
 Takes old taken (Ok (Some text)) new now = TakesLine old taken text new now
 Takes old taken (Ok None) new now = TakesNone old taken new now
 Takes old taken (Err TooLong) new now = IsTooLong old taken
-Takes old taken (Err OutOfMemory) new now = ⊤
+Takes old taken (Err OutOfMemory) new now = (new ≡ old) × (now ≡ taken)
 Takes old taken (Err ReadFault) new now = ⊥
 
 -- the last line of an input
@@ -80,6 +80,6 @@ pub record TakesLast (old : List ℕ) (taken : ℕ) (text new : List ℕ) (now :
 abbrev pub EndsWith : List ℕ → ℕ → Result Line LineError → List ℕ → ℕ → Type 0
 EndsWith old taken (Ok End) new now = (old ≡ []) × (new ≡ []) × (now ≡ taken)
 EndsWith old taken (Ok (Text text)) new now = TakesLast old taken text new now
-EndsWith old taken (Err OutOfMemory) new now = ⊤
+EndsWith old taken (Err OutOfMemory) new now = (new ≡ old) × (now ≡ taken)
 EndsWith old taken (Err TooLong) new now = ⊥
 EndsWith old taken (Err ReadFault) new now = ⊥

@@ -1,6 +1,6 @@
 ghost use Rattle.std.specs.Prelude.{◌≡◌, ◌⊎◌, ◌≢◌, ℕ, ◌+◌, ◌<◌, ◌≤◌, ⊤, false, List, [], None, Some, Ok, Err, IfErr, IfOk, MatchOption, drop, length, vec_len, OnOk, OnSome, ◌^◌};
 ghost use Rattle.std.specs.Io.KnownBytes.{IsAtEnd};
-ghost use Rattle.dn_io.specs.Lines.{Advances, AnswersKept, Held, KeepsError, ReadsLine, without_return};
+ghost use Rattle.dn_io.specs.Lines.{Advances, AnswersKept, Held, KeepsError, ReadsLine, read_faults_after, without_return};
 ghost use Rattle.dn_io.specs.Outside.{Rose, Told};
 ghost use Rattle.dn_io.specs.Reading.{Cuts, EndsWith, FeedAt, FeedFree, Fills, Takes, overlong};
 
@@ -80,7 +80,8 @@ impl LineBuf {
 /// the last line feed is a line where it isn't empty.
 ///
 /// # Errors
-/// See [`LineError`]. The buffer keeps the error, and answers it again without reading.
+/// See [`LineError`]. The buffer keeps the error, and answers it again without reading. After a read fault, and where
+/// memory wasn't to be had, it holds what was read so far.
 pub fn read_line<S: Source>(
     alloc: Global,
     source: &mut S,
@@ -95,6 +96,8 @@ pub fn read_line<S: Source>(
     ensures fault { result ≡ Err LineError.ReadFault →
         Rose (S.faults source.old) (S.faults source.new) ⊎ (buf.old.kept ≡ Some LineError.ReadFault) }
     ensures later { S.faults source.old ≤ S.faults source.new }
+    // Each read fault of a call that reads is counted once, and nothing else is.
+    ensures counts { buf.old.kept ≡ None → S.faults source.new ≡ read_faults_after (S.faults source.old) result }
     ensures keeps { KeepsError result buf.new }
     ensures kept { AnswersKept buf.old result buf.new }
     // Where an error is kept, nothing is read.
@@ -130,6 +133,7 @@ fn next_line<S: Source>(
     ensures end { result ≡ Ok Line.End → held.old.items ≡ [] }
     ensures fault { result ≡ Err LineError.ReadFault → Rose (S.faults source.old) (S.faults source.new) }
     ensures later { S.faults source.old ≤ S.faults source.new }
+    ensures counts { S.faults source.new ≡ read_faults_after (S.faults source.old) result }
     ensures advances { IfOk result (λ line. Advances line taken.old taken.new) }
 {
     loop {
@@ -144,22 +148,28 @@ fn next_line<S: Source>(
     }
 }
 
-// Adds what one read gives to what is held, and answers how much it is: nothing at the end.
+// Adds what one read gives to what is held, and answers how much it is: nothing at the end. The room for it is taken
+// before the read, so that no byte is lost for want of memory.
 fn fill<S: Source>(source: &mut S, chunk: &mut [u8], held: &mut Vec<u8>) -> Result<usize, LineError>
     requires { 0 < length chunk.old }
-    ensures fills { IfOk result (λ _. Fills held.old.items held.new.items (S.left source.old) (S.left source.new)) }
+    ensures fills { Fills held.old.items held.new.items (S.left source.old) (S.left source.new) }
     ensures len { IfOk result (λ count. vec_len held.new ≡ vec_len held.old + count) }
     ensures end { IfOk result (λ count. count ≡ 0 → IsAtEnd (S.left source.new)) }
-    ensures told { Told (S.left source.old) (S.left source.new) (λ before now. ⊤) }
     ensures long { result ≢ Err LineError.TooLong }
     ensures fault { result ≡ Err LineError.ReadFault → Rose (S.faults source.old) (S.faults source.new) }
     ensures later { S.faults source.old ≤ S.faults source.new }
+    ensures counts { S.faults source.new ≡ read_faults_after (S.faults source.old) result }
 {
+    if held.reserve(chunk.len()).is_err() {
+        return Err(LineError::OutOfMemory);
+    }
     match source.read(chunk) {
-        Ok(count) => match held.extend_from_slice(&chunk[..count]) {
-            Ok(()) => Ok(count),
-            Err(_) => Err(LineError::OutOfMemory),
-        },
+        Ok(count) => {
+            if held.extend_from_slice(&chunk[..count]).is_err() {
+                unreachable!()
+            }
+            Ok(count)
+        }
         Err(_) => Err(LineError::ReadFault),
     }
 }

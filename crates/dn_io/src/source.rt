@@ -62,13 +62,14 @@ pub struct MemSource {
 }
 
 impl MemSource {
-    ghost use Rattle.dn_io.specs.Memory.{left_of, reads_failed, reads_made};
+    ghost use Rattle.dn_io.specs.Memory.{failing_reads, left_of, reads_failed, reads_made};
 
-    /// A source of these bytes.
+    /// A source of these bytes, which fails at the reads of these numbers.
     pub fn of(bytes: List<u8>, fails: List<u64>) -> Self
         ensures left { left_of result ≡ Some bytes }
         ensures faults { reads_failed result ≡ 0 }
         ensures calls { reads_made result ≡ 0 }
+        ensures listed { failing_reads result ≡ fails }
     {
         MemSource {
             unread: Unread::of(bytes),
@@ -84,7 +85,7 @@ impl Source for MemSource {
     ghost use Rattle.std.specs.Io.{ReadsAtMost};
     ghost use Rattle.std.specs.Io.KnownBytes.{ReadConsumes};
     ghost use Rattle.dn_io.specs.Outside.{HasCause};
-    ghost use Rattle.dn_io.specs.Memory.{left_of, read_fails, reads_failed, reads_made};
+    ghost use Rattle.dn_io.specs.Memory.{failing_reads, left_of, read_fails, reads_failed, reads_made};
 
     ghost left = { λ source. Some source.unread };
 
@@ -97,6 +98,7 @@ impl Source for MemSource {
         ensures cause { HasCause (reads_failed self.old) (reads_failed self.new) result }
         ensures fails { is_err result ≡ read_fails self.old }
         ensures calls { reads_made self.new ≡ min (reads_made self.old + 1) (2 ^ 64 - 1) }
+        ensures listed { failing_reads self.new ≡ failing_reads self.old }
     {
         let call = self.calls;
         self.calls = call.saturating_add(1);

@@ -23,14 +23,24 @@ impl SureSource {
 }
 
 impl Source for SureSource {
-    ghost use Rattle.std.specs.Prelude.{Some};
+    ghost use Rattle.std.specs.Prelude.{IsOk, Some};
+    ghost use Rattle.std.specs.Io.{ReadsAtMost};
+    ghost use Rattle.std.specs.Io.KnownBytes.{ReadConsumes};
     ghost use Rattle.std.proofs.Common.{rules};
+    ghost use Rattle.dn_io.specs.Memory.{sure_left_of};
+    ghost use Rattle.dn_io.specs.Outside.{HasCause};
 
     ghost left = { λ source. Some source.unread };
 
     ghost faults = { λ source. 0 };
 
-    fn read(&mut self, buf: &mut [u8]) -> Result<usize, Failed> {
+    /// Never fails.
+    fn read(&mut self, buf: &mut [u8]) -> Result<usize, Failed>
+        ensures bound { ReadsAtMost result buf.new }
+        ensures bytes { ReadConsumes (sure_left_of self.old) (sure_left_of self.new) result buf.new }
+        ensures cause { HasCause 0 0 result }
+        ensures sure { IsOk result }
+    {
         Ok(self.unread.read(buf))
     }
 
@@ -49,14 +59,22 @@ impl SureSink {
 }
 
 impl Sink for SureSink {
-    ghost use Rattle.std.specs.Prelude.{None};
+    ghost use Rattle.std.specs.Prelude.{◌≡◌, None, Ok, length};
+    ghost use Rattle.std.specs.Io.KnownBytes.{WriteAppends};
     ghost use Rattle.std.proofs.Common.{rules};
+    ghost use Rattle.dn_io.specs.Outside.{HasCause, TakesSome};
 
     ghost written = { λ sink. None };
 
     ghost faults = { λ sink. 0 };
 
-    fn write(&mut self, bytes: &[u8]) -> Result<usize, Failed> {
+    /// Takes the piece whole, and never fails.
+    fn write(&mut self, bytes: &[u8]) -> Result<usize, Failed>
+        ensures bound { TakesSome result bytes.now }
+        ensures bytes { WriteAppends None None result bytes.now }
+        ensures cause { HasCause 0 0 result }
+        ensures whole { result ≡ Ok (length bytes.now) }
+    {
         Ok(bytes.len())
     }
 
