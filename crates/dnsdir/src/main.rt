@@ -8,7 +8,7 @@ mod fault;
 mod tests;
 
 use batch::batch;
-use dn_io::{Status, StdSink, StdSource};
+use dn_io::{Failed, Status, StdSink, StdSource};
 use fault::Fault;
 use std::alloc::Global;
 use std::process::ExitCode;
@@ -66,6 +66,14 @@ fn print_text(rt: &impl Print, text: &str) -> Status {
     }
 }
 
+// The status of a run whose output was flushed at last, since a flush that failed is told by the call behind it.
+fn flushed(status: Status, flush: Result<(), Failed>) -> Status {
+    match (status, flush) {
+        (Status::Done, Err(_)) => Status::WriteFault,
+        (status, _) => status,
+    }
+}
+
 // Does what the words ask for: help and version by itself, all else over the standard streams.
 fn run(rt: &(impl Input + Print), alloc: Global, words: &[String]) -> Status {
     let mut texts = Vec::new(alloc);
@@ -80,7 +88,8 @@ fn run(rt: &(impl Input + Print), alloc: Global, words: &[String]) -> Status {
         words => {
             let mut source = StdSource::of(rt.reader());
             let mut sink = StdSink::of(io::writer(rt));
-            batch(alloc, words, &mut source, &mut sink)
+            let status = batch(alloc, words, &mut source, &mut sink);
+            flushed(status, sink.flush())
         }
     }
 }
