@@ -12,6 +12,7 @@ mod source;
 mod standard;
 mod status;
 mod sure;
+mod threads;
 
 pub use duplicate::{Duplicate, OutOfMemory};
 pub use line::{Line, LineBuf, LineError, read_line};
