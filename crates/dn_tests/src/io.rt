@@ -1,7 +1,7 @@
-use crate::fixtures::{check_bytes, crosses, list_of, moment};
+use crate::fixtures::{check_bytes, list_of, moment};
 use dn_io::{
-    Addr, Duplicate, Failed, Line, LineBuf, LineError, List, MemSink, MemSource, Moment, Sink,
-    Source, Status, StdSink, StdSource, SureSink, SureSource, read_line, write_all,
+    Duplicate, Failed, Line, LineBuf, LineError, List, MemSink, MemSource, Moment, Sink, Source,
+    Status, StdSink, StdSource, SureSink, SureSource, read_line, write_all,
 };
 use std::alloc::Global;
 use std::io::{self, ErrorKind, Read, Write};
@@ -157,9 +157,65 @@ fn a_writer_with_too_little_room_takes_a_front(rt: HostRuntime) {
     check_bytes(&rt, &room, b"abc", "the room");
 }
 
+// The writer takes the bytes, so what fails is the call behind.
 #[test]
 fn a_writer_that_cannot_flush(rt: HostRuntime) {
-    assert_eq!(rt; write_all(&mut StdSink::of(Broken), b"ab"), Err(Failed));
+    let mut sink = StdSink::of(Broken);
+    assert_eq!(rt; write_all(&mut sink, b"ab"), Ok(()));
+    assert_eq!(rt; write_all(&mut sink, b"c"), Err(Failed));
+    assert_eq!(rt; sink.flush(), Err(Failed));
+}
+
+/// So many letters, of which neighbours differ.
+fn letters(rt: &impl Abort, alloc: Global, count: usize) -> List<u8> {
+    let mut letters = List::new(alloc);
+    for at in 0..count {
+        letters.push(b'a' + (at % 26) as u8).expect(rt, "memory");
+    }
+    letters
+}
+
+/// The text of a reader's first line.
+fn first_text<R: Read + Drop>(rt: &impl Abort, alloc: Global, reader: R) -> List<u8> {
+    let mut lines = LineBuf::new(alloc).expect(rt, "memory");
+    match read_line(alloc, &mut StdSource::of(reader), &mut lines) {
+        Ok(Line::Text(text)) => text,
+        _ => panic!(rt; "the line is read"),
+    }
+}
+
+// Two reads of 4,096 bytes make the line.
+#[test]
+fn a_line_of_more_than_one_buffer(rt: HostRuntime) {
+    let line = letters(&rt, rt.alloc(), 5_000);
+    let found = first_text(&rt, rt.alloc(), line.as_slice());
+    check_bytes(&rt, found.as_slice(), line.as_slice(), "the line");
+}
+
+#[test]
+fn a_piece_that_is_taken_in_parts(rt: HostRuntime) {
+    let mut parts = Parts {
+        taken: Vec::new(rt.alloc()),
+    };
+    let ended = write_all(&mut StdSink::of(&mut parts), b"abcdefgh");
+    assert_eq!(rt; ended, Ok(()));
+    check_bytes(&rt, parts.taken.as_slice(), b"abcdefgh", "the parts");
+}
+
+/// A writer that takes at most three bytes a call.
+#[derive(Drop)]
+struct Parts {
+    taken: Vec<u8>,
+}
+
+impl Write for Parts {
+    fn write(&mut self, bytes: &[u8]) -> io::Result<usize> {
+        self.taken.write(&bytes[..bytes.len().min(3)])
+    }
+
+    fn flush(&mut self) -> io::Result<()> {
+        Ok(())
+    }
 }
 
 /// A stream of which each read, and each flush, fails.
@@ -260,7 +316,6 @@ fn nested(rt: &impl Abort, alloc: Global, bytes: &[u8]) -> List<List<u8>> {
 fn a_copy_of_a_list_of_lists(rt: HostRuntime) {
     let alloc = rt.alloc();
     let outer = nested(&rt, alloc, b"axcde");
-    crosses(&outer);
     let copy = outer.copy(alloc).expect(&rt, "memory");
     check_list(
         &rt,
@@ -268,17 +323,4 @@ fn a_copy_of_a_list_of_lists(rt: HostRuntime) {
         b"axcde",
     );
     assert_eq!(rt; copy.into_vec().len(), 1);
-}
-
-#[test]
-fn what_is_outside_may_go_to_other_threads(rt: HostRuntime) {
-    let alloc = rt.alloc();
-    crosses(&MemSource::of(List::new(alloc), List::new(alloc)));
-    crosses(&MemSink::of(List::new(alloc)));
-    crosses(&LineBuf::new(alloc).expect(&rt, "memory"));
-    let local = Addr {
-        ip: [127, 0, 0, 1],
-        port: 53,
-    };
-    crosses(&local);
 }
