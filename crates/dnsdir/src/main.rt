@@ -66,7 +66,8 @@ fn print_text(rt: &impl Print, text: &str) -> Status {
     }
 }
 
-// The status of a run whose output was flushed at last, since a flush that failed is told by the call behind it.
+// The status of a run whose output was flushed at last, since a flush that failed is told by the call behind it. The
+// runtime's printer holds nothing back and its flush can't fail, so with it the status stays.
 fn flushed(status: Status, flush: Result<(), Failed>) -> Status {
     match (status, flush) {
         (Status::Done, Err(_)) => Status::WriteFault,
