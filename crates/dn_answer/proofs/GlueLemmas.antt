@@ -1,25 +1,11 @@
 -- The additional rows turn by turn.
-use Rattle.std.proofs.Common.{◌≡◌, ℕ, suc, ◌+◌, ◌<◌, List, [], ◌∷◌, ◌++◌, length, map, drop, get_or, drop-cons, arith, Option, Some, None, refl, sym, ap, ◌∙◌, append_assoc}
+use Rattle.std.proofs.Common.{◌≡◌, ℕ, suc, ◌+◌, ◌<◌, List, [], ◌∷◌, ◌++◌, length, drop, get_or, drop-cons, arith, sym, ap, ◌∙◌}
 use Rattle.std.proofs.lemmas.List.{append-nil}
 use Rattle.dn_name.specs.Name.{Labels}
 use Rattle.dn_answer.specs.declared.reply.Rr.{Rr}
 use Rattle.dn_answer.specs.declared.rows.Owned.{Owned}
-use Rattle.dn_answer.specs.Glue.{addresses, glue, glue_rr, not_put, server_of}
+use Rattle.dn_answer.specs.Glue.{glue, server_of}
 use Rattle.dn_answer.specs.Glue.Turn.{PutsGlue}
-
--- a row that names no server
-pub no_server : (spelled : List Labels) (rows : List Owned) (server : Option Labels) (list : List Rr) (put : List Owned) → server ≡ None
-    → PutsGlue spelled rows server list put list put
-no_server spelled rows server list put is go_on = rw is refl
-
--- a row that names a server, with the addresses that aren't put yet
-pub a_server : (spelled : List Labels) (rows : List Owned) (server : Option Labels) (name : Labels) (list more : List Rr) (put then_put : List Owned)
-    → server ≡ Some name
-    → more ≡ list ++ map (glue_rr spelled name) (not_put put (addresses rows name))
-    → then_put ≡ put ++ not_put put (addresses rows name)
-    → PutsGlue spelled rows server list put more then_put
-a_server spelled rows server name list more put then_put is added puts go_on =
-    rw (is, added, puts) (sym (append_assoc list (map (glue_rr spelled name) (not_put put (addresses rows name))) (go_on (put ++ not_put put (addresses rows name)))))
 
 -- what the rest gives completes the whole
 pub glue_on : (spelled : List Labels) (rows : List Owned) (apex : Labels) (whole list more : List Rr) (put then_put : List Owned) (one : Owned) (ahead rest : List Owned)

@@ -25,9 +25,6 @@ same_bytes left right l r =
     (λ e. (labels_decide left right).1 (wire-injective left right l r ((bytes_decides (wire_of left) (wire_of right)).0 e)))
     (λ e. (bytes_decides (wire_of left) (wire_of right)).1 (ap wire_of ((labels_decide left right).0 e)))
 
-pub same_means : (left right : Labels) (test : Bool) → test ≡ is_same left right → IsTrue test ↔ (lowered left ≡ lowered right)
-same_means left right test e = (λ h. (labels_decide (lowered left) (lowered right)).0 (sym e ∙ h), λ h. e ∙ (labels_decide (lowered left) (lowered right)).1 h)
-
 -- ---- under
 
 pub under_lowered : (name apex : Labels) → is_under name apex ≡ ends_in (lowered name) (lowered apex)

@@ -1,8 +1,8 @@
 -- What writing one byte, one label or a dot does to a buffer.
-use Rattle.std.proofs.Common.{◌≡◌, ℕ, ◌+◌, ◌*◌, ◌≤◌, ◌<◌, true, false, cond, List, [], ◌∷◌, ◌++◌, length, take, drop, get_or, None, Some, refl, sym, ◌∙◌, ap, arith, append_assoc, append-nil, length-append}
+use Rattle.std.proofs.Common.{◌≡◌, ℕ, ◌+◌, ◌*◌, ◌≤◌, ◌<◌, true, false, cond, List, [], ◌∷◌, ◌++◌, length, take, drop, get_or, Some, refl, sym, ◌∙◌, ap, arith, append_assoc, append-nil, length-append}
 use Rattle.std.specs.List.{AllByRecursion}
 use Rattle.std.proofs.Math.ListN.{set}
-use Rattle.std.proofs.lemmas.List.{take_more, take_more_set, drop-set-lt, drop-drop, take-append-drop}
+use Rattle.std.proofs.lemmas.List.{take_more, take_more_set, drop-set-lt, drop-drop}
 use Rattle.std.proofs.lemmas.Grind.{flat_map-append}
 use Rattle.dn_name.specs.Name.{Labels, IsLabel, IsName, wire_len, wire_of}
 use Rattle.dn_name.specs.Text.{is_plain, three_digits, byte_text, label_text, dotted, text_of}
@@ -45,10 +45,6 @@ pub label_more : (start : ℕ) (old label : List ℕ) (i at : ℕ) (mid : List �
     → Prints start old (label_text (take (i + 1) label)) after new
 label_more start old label i at mid after new within first second =
     rw (label_text_more label i 0 within) (prints_more start old (label_text (take i label)) at mid (byte_text (get_or label i 0)) after new first second)
-
-pub no_label : (name : Labels) → None ≡ first_of name → name ≡ []
-no_label [] none = refl
-no_label (label ∷ name) none = cc
 
 same_parts : (p q : List ℕ × List ℕ) → Some p ≡ Some q → (p.0 ≡ q.0) × (p.1 ≡ q.1)
 same_parts p q is = let both : p ≡ q = cc in (ap (λ parts. parts.0) both, ap (λ parts. parts.1) both)
@@ -109,17 +105,3 @@ pub turn_written : (name : Labels) (wire label behind : List ℕ) (at : ℕ) (ol
     → Prints (at + 1) (set mid at 46) (label_text label) after new → IsWritten name behind after old new
 turn_written name wire label behind at old mid after new w =
     next_written name w.left w.done wire label behind at old mid after new w.labels w.spelled w.text w.prints w.room
-
-all_text : (name : Labels) (wire : List ℕ) (at : ℕ) (old new : List ℕ) → (w : IsWritten name wire at old new) → None ≡ first_of w.left
-    → text_of name ≡ w.done
-all_text name wire at old new w none = w.text ∙ ap (λ left. w.done ++ dotted left) (no_label w.left none) ∙ append-nil w.done
-
-pub written_len : (name : Labels) (wire : List ℕ) (at : ℕ) (old new : List ℕ) → (w : IsWritten name wire at old new) → None ≡ first_of w.left
-    → at ≡ length (text_of name)
-written_len name wire at old new w none = omega (arith, w.prints.place, ap length (all_text name wire at old new w none))
-
-pub written_text : (name : Labels) (wire : List ℕ) (at : ℕ) (old new : List ℕ) → (w : IsWritten name wire at old new) → None ≡ first_of w.left
-    → new ≡ text_of name ++ drop at old
-written_text name wire at old new w none =
-    sym (take-append-drop at new) ∙ ap (λ front. front ++ drop at new) (w.prints.front ∙ sym (all_text name wire at old new w none))
-    ∙ ap (λ back. text_of name ++ back) w.prints.back

@@ -39,9 +39,6 @@ made n name is e l =
       name = subst IsName again is;
     }
 
-pub take-padded : (name : Labels) → take (wire_len name) (padded name) ≡ wire_of name
-take-padded name = take_at (wire_of name) (replicate (255 - wire_len name) 0) (wire_len name) (length-wire_of name)
-
 -- what the fields of a name say
 pub record Spells (n : Inside) (name : Labels) : Type 0 where
   pub wire : n.wire ≡ padded name

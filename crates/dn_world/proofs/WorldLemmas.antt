@@ -1,20 +1,16 @@
 -- What an event at one zone makes of a world.
 use Rattle.std.proofs.Common.{◌≡◌, ℕ, zero, suc, List, [], ◌∷◌, Some, refl, sym, ap, ◌∙◌}
 use Rattle.std.specs.Prelude.{position, slice_get, slice_set}
-use Rattle.dn_name.specs.Name.{Labels}
 use Rattle.dn_stamp.specs.declared.stamp.ReplicaId.{ReplicaId}
 use Rattle.dn_link.specs.declared.packet.Changes.{Changes}
 use Rattle.dn_zone.specs.declared.event.Answer.{Answer}
-use Rattle.dn_zone.specs.declared.event.Event.{Event}
 use Rattle.dn_zone.specs.declared.zone.Prepared.{Prepared}
-use Rattle.dn_zone.specs.declared.zone.Prepared.TheVariants.{Same, Became}
+use Rattle.dn_zone.specs.declared.zone.Prepared.TheVariants.{Same}
 use Rattle.dn_zone.specs.declared.zone.Zone.{Zone}
 use Rattle.dn_zone.specs.Zone.{merge_step, zstep}
 use Rattle.dn_zone.specs.Zone.Preparing.{Prepares}
 use Rattle.dn_world.specs.declared.event.WorldAnswer.TheVariants as answers
-use Rattle.dn_world.specs.declared.world.Replica.{Replica}
-use Rattle.dn_world.specs.declared.world.World.{World}
-use Rattle.dn_world.specs.World.{is_zone, wstep_act}
+use Rattle.dn_world.specs.World.{is_zone}
 use Rattle.dn_world.specs.World.Merges.{MergesAt}
 use Rattle.dn_world.specs.World.Puts.{Puts}
 
@@ -27,20 +23,6 @@ set_same (first ∷ rest) (suc at) zone is = ap (λ (zones : List Zone). first �
 pub puts_same : (zones : List Zone) (place : ℕ) (answer : Answer) → Puts (Same answer) zones zones place answer
 puts_same zones place answer zone stepped there is =
     (ap (λ (after : Zone × Answer). slice_set zones place after.0) is ∙ set_same zones place zone there, ap (λ (after : Zone × Answer). after.1) is)
-
-pub puts_next : (zones : List Zone) (place : ℕ) (next : Zone) (answer : Answer) → Puts (Became next answer) zones (slice_set zones place next) place answer
-puts_next zones place next answer zone stepped there is =
-    (ap (λ (after : Zone × Answer). slice_set zones place after.0) is, ap (λ (after : Zone × Answer). after.1) is)
-
--- an event at the zone of a replica
-pub act_puts : (world : World) (at place : ℕ) (replica : Replica) (apex : Labels) (event : Event) (zone : Zone) (made : Prepared) (zones : List Zone) (answer : Answer)
-    → Some replica ≡ slice_get world.replicas at → Some place ≡ position (is_zone replica.id apex) world.zones → Some zone ≡ slice_get world.zones place
-    → Prepares made zone (zstep zone event) → Puts made world.zones zones place answer
-    → wstep_act world (slice_get world.replicas at) apex event ≡ (record world { zones = zones }, answers.Zone answer)
-unfolding wstep_act
-act_puts world at place replica apex event zone made zones answer its_replica its_place its_zone prepared puts =
-    let put = puts zone (zstep zone event) (sym its_zone) prepared in
-    rw (← its_replica, ← its_place, ← its_zone, put.0, put.1) refl
 
 -- changes that are merged into the zone of a replica
 pub merge_puts : (id : ReplicaId) (changes : Changes) (place : ℕ) (zone : Zone) (made : Prepared) (before after : List Zone) (answer : Answer)
