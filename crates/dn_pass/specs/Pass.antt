@@ -6,7 +6,7 @@ use Rattle.dn_property.specs.declared.rules.ZoneRules.{ZoneRules}
 use Rattle.dn_property.specs.Hours.{is_due, is_stale}
 use Rattle.dn_property.specs.Rules.{rules_of}
 use Rattle.dn_stamp.specs.declared.stamp.ReplicaId.{ReplicaId}
-use Rattle.dn_stamp.specs.Stamp.{is_last}
+use Rattle.dn_stamp.specs.Stamp.{is_last, stamp_after}
 use Rattle.dn_rdata.specs.declared.record.Record.{Record}
 use Rattle.dn_store.specs.declared.unit.Unit as units
 use Rattle.dn_store.specs.declared.unit.UnitKey.{UnitKey}
@@ -64,7 +64,7 @@ unfoldable pub swept : ZoneRules → ℕ → ReplicaId → units.Unit → Write
 swept rules ticks id unit =
     record {
       key = unit.key;
-      stamp = record { version = unit.stamp.version + 1; seconds = seconds_of ticks; id = id };
+      stamp = stamp_after unit.stamp id (seconds_of ticks);
       value = becomes rules ticks unit.value;
     }
 

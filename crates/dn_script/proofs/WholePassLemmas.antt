@@ -7,7 +7,7 @@ use Rattle.dn_name.specs.Name.{Labels}
 use Rattle.dn_stamp.specs.declared.stamp.ReplicaId.{ReplicaId}
 use Rattle.dn_store.specs.declared.unit.Unit as units
 use Rattle.dn_store.specs.Contents.{props_number}
-use Rattle.dn_store.specs.Table.{KeysGrow}
+use Rattle.dn_store.specs.Table.{KeysGrow, change_limit}
 use Rattle.dn_store.proofs.CallerLemmas.{ahead}
 use Rattle.dn_update.specs.declared.plan.Limit.TheVariants as limits
 use Rattle.dn_pass.specs.declared.pass.Pass.{Pass}
@@ -23,7 +23,7 @@ use Rattle.dn_zone.specs.declared.zone.Zone.{Zone}
 use Rattle.dn_zone.specs.Aging.{rules_at}
 use Rattle.dn_zone.specs.Outcome.{goes_on, outcome_of}
 use Rattle.dn_zone.specs.Zone.{begin_at, begin_step, begin_unless, pass_step, step_by, step_of, zstep}
-use Rattle.dn_zone.proofs.CallerLemmas.{SoundZone, limit, zones_sound}
+use Rattle.dn_zone.proofs.CallerLemmas.{SoundZone, zones_sound}
 use Rattle.dn_world.specs.declared.event.WorldAnswer.{WorldAnswer}
 use Rattle.dn_world.specs.declared.event.WorldAnswer.TheVariants.{Made}
 use Rattle.dn_world.specs.declared.event.WorldEvent.{WorldEvent}
@@ -62,11 +62,11 @@ planned_falls : (last : Bool) (zone : Zone) (pass : Pass) (most : ℕ) → is_la
 unfolding pass_after
 planned_falls true zone pass most is some grow =
     let writes = sweep (rules_at zone) pass.moment zone.id (looked_at pass.after most zone.table.0) in
-    full_falls (nat_lt limit (zone.table.1 + length writes)) (Some pass) zone _ (record { same = λ id apex. refl; falls = λ moved. absurd (false≢true moved) })
+    full_falls (nat_lt change_limit (zone.table.1 + length writes)) (Some pass) zone _ (record { same = λ id apex. refl; falls = λ moved. absurd (false≢true moved) })
 planned_falls false zone pass most is some grow =
     let writes = sweep (rules_at zone) pass.moment zone.id (looked_at pass.after most zone.table.0) in
     let fewer = step_falls (rules_at zone) pass.moment zone.id pass.after most zone.table.0 zone.table.1 grow is in
-    full_falls (nat_lt limit (zone.table.1 + length writes)) (Some pass) zone _ (record { same = λ id apex. refl; falls = λ moved. omega (arith, fewer, some) })
+    full_falls (nat_lt change_limit (zone.table.1 + length writes)) (Some pass) zone _ (record { same = λ id apex. refl; falls = λ moved. omega (arith, fewer, some) })
 
 void_falls : (void : Bool) (zone : Zone) (pass : Pass) (most : ℕ) → 1 ≤ most → KeysGrow zone.table.0
     → Falls (Some pass) zone (step_by zone (cond {A = StepPlan} void (plans.Void (props_number zone.table.0)) (planned zone.table.0 pass most zone.id (rules_at zone))))

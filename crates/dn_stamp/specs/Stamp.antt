@@ -37,7 +37,11 @@ is_last stamp = not (nat_lt stamp.version last_version)
 abbrev pub first_stamp : ReplicaId → ℕ → Stamp
 first_stamp id seconds = record { version = 1; seconds = seconds; id = id }
 
+-- the stamp of a write behind this one, whatever its version
+abbrev pub stamp_after : Stamp → ReplicaId → ℕ → Stamp
+stamp_after stamp id seconds = record { version = stamp.version + 1; seconds = seconds; id = id }
+
 -- the stamp of the next write, with the version plus one; none at the last version
 abbrev pub next_stamp : Stamp → ReplicaId → ℕ → Option Stamp
 next_stamp stamp id seconds =
-    if nat_lt stamp.version last_version then Some (record { version = stamp.version + 1; seconds = seconds; id = id }) else None
+    if nat_lt stamp.version last_version then Some (stamp_after stamp id seconds) else None

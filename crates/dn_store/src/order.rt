@@ -1,8 +1,8 @@
-ghost use Rattle.std.specs.Prelude.{◌+◌, ◌^◌, IfOk, ◌≡◌, ◌<◌, ◌≤◌, false, length, slice_index_or, position, option_copied, OnOk};
+ghost use Rattle.std.specs.Prelude.{◌+◌, IfOk, ◌≡◌, ◌<◌, ◌≤◌, false, length, slice_index_or, position, option_copied, OnOk};
 ghost use Rattle.std.specs.Ordering.{is_eq, is_le};
 ghost use Rattle.dn_store.specs.Places.{place_among};
 ghost use Rattle.dn_store.specs.Value.{key_order};
-ghost use Rattle.dn_store.specs.Table.{numbered, placed, taken, unit_above, unit_at};
+ghost use Rattle.dn_store.specs.Table.{change_limit, numbered, placed, taken, unit_above, unit_at};
 ghost use Rattle.dn_store.specs.declared.unit.Unit as one;
 
 use crate::{Unit, UnitKey, Write};
@@ -103,7 +103,7 @@ pub fn take_writes(
     top: u64,
     batch: &[Write],
 ) -> Result<(), OutOfMemory>
-    requires { top + length batch.now ≤ 2 ^ 63 }
+    requires { top + length batch.now ≤ change_limit }
     ensures { OnOk result (units.new.items ≡ taken units.old.items top batch.now) }
 {
     let mut number = top;

@@ -10,7 +10,7 @@ use Rattle.dn_rdata.specs.Record.{made}
 use Rattle.dn_store.specs.declared.unit.Unit as units
 use Rattle.dn_store.specs.declared.unit.Write.{Write}
 use Rattle.dn_store.specs.Contents.{properties_of}
-use Rattle.dn_store.specs.Table.{TableState, taken}
+use Rattle.dn_store.specs.Table.{TableState, change_limit, taken}
 use Rattle.dn_store.specs.Value.{fits}
 use Rattle.dn_update.specs.Writes.{Outcome, Wanted, stamped, when_stamped, with_writes, written}
 use Rattle.dn_pass.specs.declared.pass.Pass.{Pass}
@@ -23,7 +23,7 @@ use Rattle.dn_zone.specs.Aging.{Given}
 use Rattle.dn_zone.specs.Merge.{cursor_of, winners}
 use Rattle.dn_zone.specs.Settings.{settings_of}
 use Rattle.dn_zone.specs.Zone.{add_wanted, admin_step, merge_step, merged, after_merge, set_step, settings_wanted, with_table}
-use Rattle.dn_zone.proofs.AgingSound.{IsSound, RunsSound, limit, sound_after}
+use Rattle.dn_zone.proofs.AgingSound.{IsSound, RunsSound, sound_after}
 use Rattle.dn_zone.proofs.OwnWrites.{GivenSound, given_taken}
 
 abbrev pub Both : Given → List units.Unit → ℕ → Option Pass → Type 0
@@ -36,23 +36,23 @@ running_start list top pass sound running is =
     let runs : RunsSound list top running = (subst (λ (one : Option Pass). IsSound list top one) is sound).passing in
     runs.start
 
-both_taken : (given : Given) (list : List units.Unit) (top : ℕ) (pass : Option Pass) (writes : List Write) → top + length writes ≤ limit → Both given list top pass
+both_taken : (given : Given) (list : List units.Unit) (top : ℕ) (pass : Option Pass) (writes : List Write) → top + length writes ≤ change_limit → Both given list top pass
     → Both given (taken list top writes) (top + length writes) pass
 both_taken given list top pass writes within both =
     (sound_after list top pass writes within both.0, given_taken list top writes given pass both.0.units (running_start list top pass both.0) both.1)
 
 unless_full : (full : Bool) (given : Given) (table : TableState) (pass : Option Pass) (writes : List Write) (one other : Outcome)
-    → nat_lt limit (table.1 + length writes) ≡ full → Both given table.0 table.1 pass
+    → nat_lt change_limit (table.1 + length writes) ≡ full → Both given table.0 table.1 pass
     → let after = cond {A = TableState × Outcome} full (table, one) (with_writes writes table, other) in Both given after.0.0 after.0.1 pass
 unless_full true given table pass writes one other is both = both
 unless_full false given table pass writes one other is both =
-    both_taken given table.0 table.1 pass writes (ltb-false limit (table.1 + length writes) is) both
+    both_taken given table.0 table.1 pass writes (ltb-false change_limit (table.1 + length writes) is) both
 
 when_both : (given : Given) (table : TableState) (pass : Option Pass) (writes : Option (List Write)) → Both given table.0 table.1 pass
     → Both given (when_stamped table writes).0.0 (when_stamped table writes).0.1 pass
 when_both given table pass None both = both
 when_both given table pass (Some []) both = both
-when_both given table pass (Some (first ∷ rest)) both = unless_full (nat_lt limit (table.1 + length (first ∷ rest))) given table pass (first ∷ rest) _ _ refl both
+when_both given table pass (Some (first ∷ rest)) both = unless_full (nat_lt change_limit (table.1 + length (first ∷ rest))) given table pass (first ∷ rest) _ _ refl both
 
 fitting_both : (fit : Bool) (given : Given) (table : TableState) (pass : Option Pass) (writes : Option (List Write)) (other : Outcome) → Both given table.0 table.1 pass
     → let after = cond {A = TableState × Outcome} fit (when_stamped table writes) (table, other) in Both given after.0.0 after.0.1 pass
@@ -88,15 +88,15 @@ admin_both given zone (NoRefresh hours) moment both = set_both given zone (NoRef
 admin_both given zone (Refresh hours) moment both = set_both given zone (Refresh hours) moment both
 
 merged_both : (full : Bool) (given : Given) (zone : Zone) (changes : Changes) (won : List Write) (one other : Answer)
-    → nat_lt limit (zone.table.1 + length won) ≡ full → BothZone given zone → BothZone given (cond {A = Zone × Answer} full (zone, one) (after_merge zone changes won, other)).0
+    → nat_lt change_limit (zone.table.1 + length won) ≡ full → BothZone given zone → BothZone given (cond {A = Zone × Answer} full (zone, one) (after_merge zone changes won, other)).0
 merged_both true given zone changes won one other is both = both
 merged_both false given zone changes won one other is both =
-    both_taken given zone.table.0 zone.table.1 zone.pass won (ltb-false limit (zone.table.1 + length won) is) both
+    both_taken given zone.table.0 zone.table.1 zone.pass won (ltb-false change_limit (zone.table.1 + length won) is) both
 
 gap_both : (gap : Bool) (given : Given) (zone : Zone) (changes : Changes) (won : List Write) (answer : Answer) → BothZone given zone
     → BothZone given (cond {A = Zone × Answer} gap (zone, answer) (merged zone changes won)).0
 gap_both true given zone changes won answer both = both
-gap_both false given zone changes won answer both = merged_both (nat_lt limit (zone.table.1 + length won)) given zone changes won _ _ refl both
+gap_both false given zone changes won answer both = merged_both (nat_lt change_limit (zone.table.1 + length won)) given zone changes won _ _ refl both
 
 pub merge_both : (given : Given) (zone : Zone) (changes : Changes) → BothZone given zone → BothZone given (merge_step zone changes).0
 unfolding merge_step

@@ -7,7 +7,7 @@ use Rattle.dn_property.specs.Rules.{rules_of}
 use Rattle.dn_store.specs.declared.unit.Unit as units
 use Rattle.dn_store.specs.declared.unit.Write.{Write}
 use Rattle.dn_store.specs.Contents.{props_number, properties_of}
-use Rattle.dn_store.specs.Table.{taken}
+use Rattle.dn_store.specs.Table.{change_limit, taken}
 use Rattle.dn_store.proofs.CallerLemmas.{all_then, and_first, and_second, either, sound_taken}
 use Rattle.dn_update.specs.declared.plan.Limit.TheVariants as limits
 use Rattle.dn_pass.specs.declared.pass.Pass.{Pass}
@@ -25,7 +25,7 @@ use Rattle.dn_zone.specs.Creation.{created, first_writes, joined}
 use Rattle.dn_zone.specs.Outcome.{OfVoid, WhereOver, outcome_of}
 use Rattle.dn_zone.specs.Zone.{begin_at, begin_step, begin_unless, finished, pass_step, step_by, step_of, swept_zone, zstep}
 use Rattle.dn_zone.proofs.AgingEvents.{Both, BothZone, admin_both, merge_both}
-use Rattle.dn_zone.proofs.AgingSound.{IsSound, Keeps, limit, properties_same, rules_same, sound_after, sound_begun, sound_without}
+use Rattle.dn_zone.proofs.AgingSound.{IsSound, Keeps, properties_same, rules_same, sound_after, sound_begun, sound_without}
 use Rattle.dn_zone.proofs.AgingSteps.{runs_stepped}
 use Rattle.dn_zone.proofs.Keeping.{Keeping}
 use Rattle.dn_zone.proofs.OwnWrites.{FreshWhere, GivenSound, leaves_none, none_sound, step_fresh, step_within}
@@ -122,7 +122,7 @@ given_within given zone pass more running = step_within given zone.table.1 (zone
 
 moved_out : (given : Given) (zone : Zone) (pass : Pass) (most : ℕ) → Running given zone pass
     → let rules = rules_at zone in let looked = looked_at pass.after most zone.table.0 in let writes = sweep rules pass.moment zone.id looked in
-    zone.table.1 + length writes ≤ limit
+    zone.table.1 + length writes ≤ change_limit
     → StepOut given zone (Some pass) (swept_zone zone writes (Some (pass_after pass rules zone.id looked)), answers.Moved)
 unfolding pass_after
 moved_out given zone pass most running within =
@@ -156,7 +156,7 @@ moved_out given zone pass most running within =
 
 finished_out : (given : Given) (zone : Zone) (pass : Pass) (most : ℕ) → Running given zone pass → is_last_step pass.after most zone.table.0 ≡ true
     → let rules = rules_at zone in let looked = looked_at pass.after most zone.table.0 in let writes = sweep rules pass.moment zone.id looked in
-    zone.table.1 + length writes ≤ limit
+    zone.table.1 + length writes ≤ change_limit
     → StepOut given zone (Some pass) (swept_zone zone writes None, finished zone (pass_after pass rules zone.id looked) writes)
 finished_out given zone pass most running last within =
     let rules = rules_at zone in
@@ -183,22 +183,22 @@ refused_ages : (given : Given) (zone : Zone) (pass : Pass) (answer : Answer) →
 refused_ages given zone pass answer running finished =
     record { due = (kept_in given zone pass running).due; rows = λ key. (false, refl); finished = finished }
 
-full_out : (full : Bool) (given : Given) (zone : Zone) (pass : Pass) (writes : List Write) (after : Zone × Answer) → nat_lt limit (zone.table.1 + length writes) ≡ full
-    → Running given zone pass → (zone.table.1 + length writes ≤ limit → StepOut given zone (Some pass) after)
+full_out : (full : Bool) (given : Given) (zone : Zone) (pass : Pass) (writes : List Write) (after : Zone × Answer) → nat_lt change_limit (zone.table.1 + length writes) ≡ full
+    → Running given zone pass → (zone.table.1 + length writes ≤ change_limit → StepOut given zone (Some pass) after)
     → StepOut given zone (Some pass) (cond {A = Zone × Answer} full (zone, answers.Refused limits.Changes) after)
 full_out true given zone pass writes after is running out =
     refused_out given zone pass (answers.Refused limits.Changes) running (refused_ages given zone pass (answers.Refused limits.Changes) running tt)
-full_out false given zone pass writes after is running out = out (ltb-false limit (zone.table.1 + length writes) is)
+full_out false given zone pass writes after is running out = out (ltb-false change_limit (zone.table.1 + length writes) is)
 
 planned_out : (last : Bool) (given : Given) (zone : Zone) (pass : Pass) (most : ℕ) → is_last_step pass.after most zone.table.0 ≡ last → Running given zone pass
     → let rules = rules_at zone in let looked = looked_at pass.after most zone.table.0 in let writes = sweep rules pass.moment zone.id looked in
     StepOut given zone (Some pass) (step_by zone (plan_for last writes (pass_after pass rules zone.id looked)))
 planned_out true given zone pass most is running =
     let writes = sweep (rules_at zone) pass.moment zone.id (looked_at pass.after most zone.table.0) in
-    full_out (nat_lt limit (zone.table.1 + length writes)) given zone pass writes _ refl running (finished_out given zone pass most running is)
+    full_out (nat_lt change_limit (zone.table.1 + length writes)) given zone pass writes _ refl running (finished_out given zone pass most running is)
 planned_out false given zone pass most is running =
     let writes = sweep (rules_at zone) pass.moment zone.id (looked_at pass.after most zone.table.0) in
-    full_out (nat_lt limit (zone.table.1 + length writes)) given zone pass writes _ refl running (moved_out given zone pass most running)
+    full_out (nat_lt change_limit (zone.table.1 + length writes)) given zone pass writes _ refl running (moved_out given zone pass most running)
 
 void_out : (void : Bool) (given : Given) (zone : Zone) (pass : Pass) (most : ℕ) → nat_lt pass.start (props_number zone.table.0) ≡ void → zone.pass ≡ Some pass
     → Both given zone.table.0 zone.table.1 (Some pass)

@@ -1,5 +1,5 @@
 -- What a zone keeps of its passes, whatever it takes.
-use Rattle.std.proofs.Common.{◌≡◌, ℕ, ◌+◌, ◌^◌, ◌<◌, ◌≤◌, Bool, true, false, true≢false, if◌then◌else◌, not, ◌&&◌, nat_le, List, length, Option, None, Some, count_by, refl, sym, ap, subst, arith, ◌∙◌}
+use Rattle.std.proofs.Common.{◌≡◌, ℕ, ◌+◌, ◌<◌, ◌≤◌, Bool, true, false, true≢false, if◌then◌else◌, not, ◌&&◌, nat_le, List, length, Option, None, Some, count_by, refl, sym, ap, subst, arith, ◌∙◌}
 use Rattle.std.specs.List.{AllByRecursion}
 use Rattle.dn_io.specs.Moments.{hour_of}
 use Rattle.dn_property.specs.declared.rules.ZoneRules.{ZoneRules}
@@ -9,14 +9,11 @@ use Rattle.dn_store.specs.declared.unit.Unit as units
 use Rattle.dn_store.specs.declared.unit.UnitKey.TheVariants as keys
 use Rattle.dn_store.specs.declared.unit.Write.{Write}
 use Rattle.dn_store.specs.Contents.{number_of_unit, props_number, properties_of_unit, properties_of}
-use Rattle.dn_store.specs.Table.{is_above, taken, unit_at}
+use Rattle.dn_store.specs.Table.{change_limit, is_above, taken, unit_at}
 use Rattle.dn_store.proofs.CallerLemmas.{IsSoundList, all_of, all_taken, and_no, count_none, count_taken_old, first_no, past, props_taken, sound_taken}
 use Rattle.dn_pass.specs.declared.pass.Pass.{Pass}
 use Rattle.dn_pass.specs.Aging.{has_stale}
 use Rattle.dn_pass.specs.Pass.{new_pass_if_due, is_at_last, new_pass}
-
-abbrev pub limit : ℕ
-limit = 2 ^ 63
 
 -- ---- what holds while a pass runs by rules that haven't changed
 
@@ -47,7 +44,7 @@ PassSound list top (Some pass) = RunsSound list top pass
 
 pub record IsSound (list : List units.Unit) (top : ℕ) (pass : Option Pass) : Type 0 where
   pub units : IsSoundList list top
-  pub most : top ≤ limit
+  pub most : top ≤ change_limit
   pub passing : PassSound list top pass
 
 -- ---- writes under new numbers keep it
@@ -105,7 +102,7 @@ pass_taken : (list : List units.Unit) (top : ℕ) (pass : Option Pass) (writes :
 pass_taken list top None writes sound passing = tt
 pass_taken list top (Some pass) writes sound passing = runs_taken list top pass writes sound passing
 
-pub sound_after : (list : List units.Unit) (top : ℕ) (pass : Option Pass) (writes : List Write) → top + length writes ≤ limit → IsSound list top pass
+pub sound_after : (list : List units.Unit) (top : ℕ) (pass : Option Pass) (writes : List Write) → top + length writes ≤ change_limit → IsSound list top pass
     → IsSound (taken list top writes) (top + length writes) pass
 sound_after list top pass writes most sound =
     record { units = sound_taken list top writes sound.units; most = most; passing = pass_taken list top pass writes sound.units sound.passing }

@@ -9,13 +9,13 @@ use Rattle.dn_stamp.specs.declared.stamp.ReplicaId.{ReplicaId}
 use Rattle.dn_store.specs.declared.unit.Unit as units
 use Rattle.dn_store.specs.declared.unit.Write.{Write}
 use Rattle.dn_store.specs.Contents.{props_number, properties_of}
-use Rattle.dn_store.specs.Table.{is_above, taken}
+use Rattle.dn_store.specs.Table.{change_limit, is_above, taken}
 use Rattle.dn_store.proofs.CallerLemmas.{IsSoundList, all_of, all_taken_old, all_then, and_both, and_first, and_second, count_mono, count_taken_old, is_written, length_bound, not_false, not_true, sound_taken}
 use Rattle.dn_pass.specs.declared.pass.Pass.{Pass}
 use Rattle.dn_pass.specs.Aging.{has_stale}
 use Rattle.dn_pass.specs.Pass.{pass_after, is_skipped, is_swept, last_key, looked_at, add_capped, sweep}
 use Rattle.dn_pass.proofs.CallerLemmas.{spans_all, spans_count, stale_is_wanted, swept_is_written}
-use Rattle.dn_zone.proofs.AgingSound.{AtLast, Keeps, RunsSound, is_left, is_old_stale, limit, new_not_left, new_not_old, properties_same, rules_same}
+use Rattle.dn_zone.proofs.AgingSound.{AtLast, Keeps, RunsSound, is_left, is_old_stale, new_not_left, new_not_old, properties_same, rules_same}
 
 -- ---- the units that a step looked at and didn't write
 
@@ -56,10 +56,10 @@ within_all p list top most sound within =
     let all : length list ≤ top = length_bound list top sound.numbers sound.differ in
     omega arith
 
-limit_within : (number : ℕ) → number ≤ limit → number ≤ 2 ^ 64 - 1
+limit_within : (number : ℕ) → number ≤ change_limit → number ≤ 2 ^ 64 - 1
 limit_within number within = omega arith
 
-pub within_raised : (count more number : ℕ) → number ≤ count + more → number ≤ limit → number ≤ add_capped count more
+pub within_raised : (count more number : ℕ) → number ≤ count + more → number ≤ change_limit → number ≤ add_capped count more
 within_raised count more number sum within = le-min sum (limit_within number within)
 
 -- ---- a step that goes on
@@ -123,7 +123,7 @@ moved_last rules pass most id list top start sound keeps =
     (spans_all (UnlessWritten rules pass writes) pass.after most list sound.ordered (behind_all rules pass writes list keeps) (looked_last rules pass id looked)))
 
 moved_keeps : (rules : ZoneRules) (pass : Pass) (most : ℕ) (id : ReplicaId) (list : List units.Unit) (top : ℕ) → pass.start ≤ top → IsSoundList list top
-    → top + length (sweep rules pass.moment id (looked_at pass.after most list)) ≤ limit → Keeps rules pass list
+    → top + length (sweep rules pass.moment id (looked_at pass.after most list)) ≤ change_limit → Keeps rules pass list
     → Keeps rules (pass_after pass rules id (looked_at pass.after most list)) (taken list top (sweep rules pass.moment id (looked_at pass.after most list)))
 unfolding pass_after
 moved_keeps rules pass most id list top start sound within keeps =
@@ -136,11 +136,11 @@ moved_keeps rules pass most id list top start sound within keeps =
       count =
           within_raised pass.skipped (count_by (is_skipped rules pass.moment) looked) (count_by (is_left rules next) (taken list top writes))
           (moved_count rules pass most id list top start sound keeps)
-          (within_all (is_left rules next) (taken list top writes) (top + length writes) limit (sound_taken list top writes sound) within);
+          (within_all (is_left rules next) (taken list top writes) (top + length writes) change_limit (sound_taken list top writes sound) within);
     }
 
 pub runs_stepped : (list : List units.Unit) (top : ℕ) (pass : Pass) (most : ℕ) (id : ReplicaId) → IsSoundList list top → RunsSound list top pass → props_number list ≤ pass.start
-    → top + length (sweep (rules_of (properties_of list)) pass.moment id (looked_at pass.after most list)) ≤ limit
+    → top + length (sweep (rules_of (properties_of list)) pass.moment id (looked_at pass.after most list)) ≤ change_limit
     → RunsSound (taken list top (sweep (rules_of (properties_of list)) pass.moment id (looked_at pass.after most list)))
     (top + length (sweep (rules_of (properties_of list)) pass.moment id (looked_at pass.after most list)))
     (pass_after pass (rules_of (properties_of list)) id (looked_at pass.after most list))

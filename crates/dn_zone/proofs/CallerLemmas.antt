@@ -1,6 +1,5 @@
 -- What crates above may cite of these proofs.
 pub use Rattle.dn_zone.proofs.AgingPasses.{SoundZone, sound_ages, zones_sound}
-pub use Rattle.dn_zone.proofs.AgingSound.{limit}
 pub use Rattle.dn_zone.proofs.Keeping.{Keeping}
 pub use Rattle.dn_zone.proofs.ValidCreation.{created_valid, joined_valid}
 pub use Rattle.dn_zone.proofs.ValidEvents.{changes_valid, event_valid, pull_valid}

@@ -9,14 +9,14 @@ use Rattle.dn_stamp.specs.declared.stamp.ReplicaId.{ReplicaId}
 use Rattle.dn_store.specs.declared.unit.Unit as units
 use Rattle.dn_store.specs.declared.unit.Write.{Write}
 use Rattle.dn_store.specs.Contents.{rows_in, props_number, properties_of}
-use Rattle.dn_store.specs.Table.{IsNumber, is_above, numbered, placed, taken}
+use Rattle.dn_store.specs.Table.{IsNumber, change_limit, is_above, numbered, placed, taken}
 use Rattle.dn_store.proofs.CallerLemmas.{IsSoundList, all_both, all_of, all_placed, all_taken, all_taken_old, all_then, and_both, and_first, and_second, count_mono, count_taken_old, either, is_written, not_false, sound_taken}
 use Rattle.dn_pass.specs.declared.pass.Pass.{Pass}
 use Rattle.dn_pass.specs.Aging.{has_stale}
 use Rattle.dn_pass.specs.Pass.{pass_after, is_at_last, is_last_step, is_skipped, is_stale_row, looked_at, add_capped, sweep}
 use Rattle.dn_pass.proofs.CallerLemmas.{spans_all_last, spans_count_last, swept_fresh}
 use Rattle.dn_zone.specs.Aging.{Given, LeavesNone, also_between, is_untouched}
-use Rattle.dn_zone.proofs.AgingSound.{AtLast, Keeps, is_old_stale, limit, new_not_old, number_same, properties_same, rules_same}
+use Rattle.dn_zone.proofs.AgingSound.{AtLast, Keeps, is_old_stale, new_not_old, number_same, properties_same, rules_same}
 use Rattle.dn_zone.proofs.AgingSteps.{UnlessWritten, behind_all, behind_count, is_unwritten, looked_count, looked_last, within_all, within_raised}
 
 -- ---- the units that the steps of the running pass gave
@@ -140,7 +140,7 @@ untouched_old rules pass given unit fresh untouched stale =
 
 pub leaves_none : (rules : ZoneRules) (pass : Pass) (most : ℕ) (id : ReplicaId) (list : List units.Unit) (top : ℕ) (given : Given) → pass.start ≤ top → IsSoundList list top
     → Keeps rules pass list → is_last_step pass.after most list ≡ true
-    → top + length (sweep rules pass.moment id (looked_at pass.after most list)) ≤ limit
+    → top + length (sweep rules pass.moment id (looked_at pass.after most list)) ≤ change_limit
     → AllByRecursion (FreshWhere given rules pass.moment) (taken list top (sweep rules pass.moment id (looked_at pass.after most list)))
     → LeavesNone rules pass given (taken list top (sweep rules pass.moment id (looked_at pass.after most list))) (pass_after pass rules id (looked_at pass.after most list)).skipped
 unfolding pass_after
@@ -158,7 +158,7 @@ leaves_none rules pass most id list top given start sound keeps last within fres
     let some : count_by (is_old_stale rules pass) after ≤ add_capped pass.skipped (count_by (is_skipped rules pass.moment) looked) =
     within_raised pass.skipped (count_by (is_skipped rules pass.moment) looked) (count_by (is_old_stale rules pass) after)
     (old_count rules pass most id list top start sound keeps last)
-    (within_all (is_old_stale rules pass) after (top + length writes) limit (sound_taken list top writes sound) within) in
+    (within_all (is_old_stale rules pass) after (top + length writes) change_limit (sound_taken list top writes sound) within) in
     record {
       last =
           all_both (AtLast rules pass) (FreshWhere given rules pass.moment)
