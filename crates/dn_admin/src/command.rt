@@ -1,4 +1,4 @@
-ghost use Rattle.std.specs.Prelude.{map};
+ghost use Rattle.std.specs.Prelude.{◌≡◌, map};
 ghost use Rattle.dn_admin.specs.Command.{add_of, address_command, aging_of, command_of, hour_words, interval_command, interval_of};
 ghost use Rattle.dn_text.specs.Reading.{Reads};
 
@@ -22,8 +22,12 @@ fn address_command(
 ) -> Result<AdminCmd, TextError>
     ensures { Reads result (address_command name.now ttl.now address.now hour) }
 {
-    let name = name_of(name)?;
-    let ttl = number_of(u32::MAX, ttl)?;
+    let Some(name) = name_of(name) else {
+        return Err(TextError::BadText);
+    };
+    let Some(ttl) = number_of(u32::MAX, ttl) else {
+        return Err(TextError::BadText);
+    };
     let Some(ip) = ip_of(address) else {
         return Err(TextError::BadText);
     };
@@ -38,13 +42,13 @@ fn address_command(
 
 // The hour behind `hour`, 0 where nothing is written.
 #[tactic(auto, unfolding(crate::specs::Command::hour_words))]
-fn hour_of(words: &[&[u8]]) -> Result<u32, TextError>
-    ensures { Reads result (hour_words (map (λ word. word.now) words.now)) }
+fn hour_of(words: &[&[u8]]) -> Option<u32>
+    ensures { result ≡ hour_words (map (λ word. word.now) words.now) }
 {
     match words {
-        [] => Ok(0),
+        [] => Some(0),
         [word, hour] if is_word(word, b"hour") => number_of(u32::MAX, hour),
-        _ => Err(TextError::BadText),
+        _ => None,
     }
 }
 
@@ -59,45 +63,47 @@ fn add_of(alloc: Global, words: &[&[u8]]) -> Result<AdminCmd, TextError>
     if !is_type_a(rtype) {
         return Err(TextError::BadText);
     }
-    let hour = hour_of(rest)?;
+    let Some(hour) = hour_of(rest) else {
+        return Err(TextError::BadText);
+    };
     address_command(alloc, name, ttl, address, hour)
 }
 
 // `on` or `off`, behind `aging`.
 #[tactic(auto, unfolding(crate::specs::Command::aging_of))]
-fn aging_of(words: &[&[u8]]) -> Result<AdminCmd, TextError>
-    ensures { Reads result (aging_of (map (λ word. word.now) words.now)) }
+fn aging_of(words: &[&[u8]]) -> Option<AdminCmd>
+    ensures { result ≡ aging_of (map (λ word. word.now) words.now) }
 {
     match words {
-        [word] if is_word(word, b"on") => Ok(AdminCmd::AgingOn),
-        [word] if is_word(word, b"off") => Ok(AdminCmd::AgingOff),
-        _ => Err(TextError::BadText),
+        [word] if is_word(word, b"on") => Some(AdminCmd::AgingOn),
+        [word] if is_word(word, b"off") => Some(AdminCmd::AgingOff),
+        _ => None,
     }
 }
 
 // The hours of an interval, at most ten years of them.
 #[tactic(auto, unfolding(crate::specs::Command::interval_of))]
-fn interval_of(words: &[&[u8]]) -> Result<u32, TextError>
-    ensures { Reads result (interval_of (map (λ word. word.now) words.now)) }
+fn interval_of(words: &[&[u8]]) -> Option<u32>
+    ensures { result ≡ interval_of (map (λ word. word.now) words.now) }
 {
     let [hours] = words else {
-        return Err(TextError::BadText);
+        return None;
     };
     number_of(MAX_INTERVAL, hours)
 }
 
 // `norefresh H` or `refresh H`.
 #[tactic(auto, unfolding(crate::specs::Command::interval_command))]
-fn interval_command(verb: &[u8], words: &[&[u8]]) -> Result<AdminCmd, TextError>
-    ensures { Reads result (interval_command verb.now (map (λ word. word.now) words.now)) }
+fn interval_command(verb: &[u8], words: &[&[u8]]) -> Option<AdminCmd>
+    ensures { result ≡ interval_command verb.now (map (λ word. word.now) words.now) }
 {
     let hours = interval_of(words)?;
     if is_word(verb, b"norefresh") {
-        Ok(AdminCmd::NoRefresh(hours))
+        Some(AdminCmd::NoRefresh(hours))
     } else if is_word(verb, b"refresh") {
-        Ok(AdminCmd::Refresh(hours))
+        Some(AdminCmd::Refresh(hours))
     } else {
-        Err(TextError::BadText)
+        None
     }
 }
 
@@ -116,8 +122,8 @@ pub fn command_of(alloc: Global, words: &[&[u8]]) -> Result<AdminCmd, TextError>
     if is_word(verb, b"add") {
         add_of(alloc, rest)
     } else if is_word(verb, b"aging") {
-        aging_of(rest)
+        aging_of(rest).ok_or(TextError::BadText)
     } else {
-        interval_command(verb, rest)
+        interval_command(verb, rest).ok_or(TextError::BadText)
     }
 }

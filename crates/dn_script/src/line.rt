@@ -1,4 +1,4 @@
-ghost use Rattle.std.specs.Prelude.{map};
+ghost use Rattle.std.specs.Prelude.{◌≡◌, map};
 ghost use Rattle.dn_script.specs.Line.{admin_line, ask_line, at_line, create_line, deliver_line, event_line, join_line, line_of, pass_line, pull_line, replica_line, zone_line};
 ghost use Rattle.dn_text.specs.Reading.{Reads};
 
@@ -79,7 +79,9 @@ fn replica_line(alloc: Global, words: &[&[u8]]) -> Result<ScriptLine, TextError>
     let Some(id) = id_of(id) else {
         return Err(TextError::BadText);
     };
-    let host = name_of(host)?;
+    let Some(host) = name_of(host) else {
+        return Err(TextError::BadText);
+    };
     Ok(ScriptLine::Replica {
         name: List::from_slice(alloc, name)?,
         id,
@@ -94,8 +96,12 @@ fn create_line(alloc: Global, words: &[&[u8]]) -> Result<ScriptLine, TextError>
     let [replica, apex, mailbox] = words else {
         return Err(TextError::BadText);
     };
-    let apex = name_of(apex)?;
-    let mailbox = name_of(mailbox)?;
+    let Some(apex) = name_of(apex) else {
+        return Err(TextError::BadText);
+    };
+    let Some(mailbox) = name_of(mailbox) else {
+        return Err(TextError::BadText);
+    };
     Ok(ScriptLine::Create {
         replica: List::from_slice(alloc, replica)?,
         apex,
@@ -110,7 +116,9 @@ fn join_line(alloc: Global, words: &[&[u8]]) -> Result<ScriptLine, TextError>
     let [replica, apex] = words else {
         return Err(TextError::BadText);
     };
-    let apex = name_of(apex)?;
+    let Some(apex) = name_of(apex) else {
+        return Err(TextError::BadText);
+    };
     Ok(ScriptLine::Join {
         replica: List::from_slice(alloc, replica)?,
         apex,
@@ -129,14 +137,14 @@ fn zone_line(alloc: Global, words: &[&[u8]]) -> Result<ScriptLine, TextError>
 }
 
 #[tactic(auto, unfolding(crate::specs::Line::at_line))]
-fn at_line(words: &[&[u8]]) -> Result<ScriptLine, TextError>
-    ensures { Reads result (at_line (map (λ word. word.now) words.now)) }
+fn at_line(words: &[&[u8]]) -> Option<ScriptLine>
+    ensures { result ≡ at_line (map (λ word. word.now) words.now) }
 {
     let [ticks] = words else {
-        return Err(TextError::BadText);
+        return None;
     };
     let moment = moment_of(ticks)?;
-    Ok(ScriptLine::At { moment })
+    Some(ScriptLine::At { moment })
 }
 
 #[tactic(auto, unfolding(crate::specs::Line::admin_line))]
@@ -146,7 +154,9 @@ fn admin_line(alloc: Global, words: &[&[u8]]) -> Result<ScriptLine, TextError>
     let [replica, apex, command @ ..] = words else {
         return Err(TextError::BadText);
     };
-    let apex = name_of(apex)?;
+    let Some(apex) = name_of(apex) else {
+        return Err(TextError::BadText);
+    };
     let cmd = command_of(alloc, command)?;
     Ok(ScriptLine::Admin {
         replica: List::from_slice(alloc, replica)?,
@@ -162,7 +172,9 @@ fn ask_line(alloc: Global, words: &[&[u8]]) -> Result<ScriptLine, TextError>
     let [replica, name, qtype] = words else {
         return Err(TextError::BadText);
     };
-    let name = name_of(name)?;
+    let Some(name) = name_of(name) else {
+        return Err(TextError::BadText);
+    };
     if !is_type_a(qtype) {
         return Err(TextError::BadText);
     }
@@ -180,7 +192,9 @@ fn pull_line(alloc: Global, words: &[&[u8]]) -> Result<ScriptLine, TextError>
     let [replica, supplier, apex] = words else {
         return Err(TextError::BadText);
     };
-    let apex = name_of(apex)?;
+    let Some(apex) = name_of(apex) else {
+        return Err(TextError::BadText);
+    };
     Ok(ScriptLine::Pull {
         replica: List::from_slice(alloc, replica)?,
         supplier: List::from_slice(alloc, supplier)?,
@@ -189,14 +203,14 @@ fn pull_line(alloc: Global, words: &[&[u8]]) -> Result<ScriptLine, TextError>
 }
 
 #[tactic(auto, unfolding(crate::specs::Line::deliver_line))]
-fn deliver_line(words: &[&[u8]]) -> Result<ScriptLine, TextError>
-    ensures { Reads result (deliver_line (map (λ word. word.now) words.now)) }
+fn deliver_line(words: &[&[u8]]) -> Option<ScriptLine>
+    ensures { result ≡ deliver_line (map (λ word. word.now) words.now) }
 {
     let [number] = words else {
-        return Err(TextError::BadText);
+        return None;
     };
     let packet = number_of(u32::MAX, number)?;
-    Ok(ScriptLine::Deliver { packet })
+    Some(ScriptLine::Deliver { packet })
 }
 
 #[tactic(auto, unfolding(crate::specs::Line::pass_line))]
@@ -206,7 +220,9 @@ fn pass_line(alloc: Global, words: &[&[u8]]) -> Result<ScriptLine, TextError>
     let [replica, apex] = words else {
         return Err(TextError::BadText);
     };
-    let apex = name_of(apex)?;
+    let Some(apex) = name_of(apex) else {
+        return Err(TextError::BadText);
+    };
     Ok(ScriptLine::Pass {
         replica: List::from_slice(alloc, replica)?,
         apex,
@@ -220,7 +236,7 @@ fn event_line(alloc: Global, verb: &[u8], words: &[&[u8]]) -> Result<ScriptLine,
     if is_word(verb, b"pull") {
         pull_line(alloc, words)
     } else if is_word(verb, b"deliver") {
-        deliver_line(words)
+        deliver_line(words).ok_or(TextError::BadText)
     } else if is_word(verb, b"pass") {
         pass_line(alloc, words)
     } else {
@@ -231,7 +247,7 @@ fn event_line(alloc: Global, verb: &[u8], words: &[&[u8]]) -> Result<ScriptLine,
 // The line of a script that the words are.
 //
 // # Errors
-// `Line` exactly where they are none, `Memory` where memory wasn't to be had.
+// `BadText` exactly where they are none, `OutOfMemory`.
 #[tactic(auto, unfolding(crate::specs::Line::line_of))]
 pub fn line_of(alloc: Global, words: &[&[u8]]) -> Result<ScriptLine, TextError>
     ensures { Reads result (line_of (map (λ word. word.now) words.now)) }
@@ -244,7 +260,7 @@ pub fn line_of(alloc: Global, words: &[&[u8]]) -> Result<ScriptLine, TextError>
     } else if is_word(verb, b"zone") {
         zone_line(alloc, rest)
     } else if is_word(verb, b"at") {
-        at_line(rest)
+        at_line(rest).ok_or(TextError::BadText)
     } else if is_word(verb, b"admin") {
         admin_line(alloc, rest)
     } else if is_word(verb, b"ask") {
