@@ -172,7 +172,7 @@ impl Script {
     }
 
     // What a replica replies to a question.
-    #[tactic(auto, unfolding(crate::specs::Play::run_line, crate::specs::Play::events_of, crate::specs::Play::besides))]
+    #[tactic(auto, using(crate::proofs::LineLemmas::ask_line))]
     fn ask(&self, alloc: Global, replica: &[u8], name: &Name, qtype: u16) -> Result<List<u8>, Bad>
         ensures { Steps result self.now (run_line self.now (ScriptLine.Ask replica.now name.now qtype)) }
     {
