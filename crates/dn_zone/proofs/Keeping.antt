@@ -1,5 +1,5 @@
 -- What a new zone has and each of its events keeps.
-use Rattle.std.proofs.Common.{ℕ, List}
+use Rattle.std.proofs.Common.{ℕ}
 use Rattle.dn_name.specs.Name.{Labels}
 use Rattle.dn_stamp.specs.declared.stamp.ReplicaId.{ReplicaId}
 use Rattle.dn_zone.specs.declared.event.Event.{Event}

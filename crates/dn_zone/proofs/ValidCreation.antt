@@ -1,5 +1,5 @@
 -- A new zone is valid, and so is one of which nothing is here yet.
-use Rattle.std.proofs.Common.{◌≡◌, ℕ, ◌+◌, ◌≤◌, Bool, true, ◌&&◌, List, [], ◌∷◌, ◌++◌, length, nat_lt, nat_le, refl, arith}
+use Rattle.std.proofs.Common.{◌≡◌, ℕ, ◌≤◌, Bool, true, ◌&&◌, [], ◌∷◌, ◌++◌, length, nat_lt, nat_le, refl, arith}
 use Rattle.std.proofs.lemmas.Bool.{le-leb}
 use Rattle.std.proofs.lemmas.List.{length-append}
 use Rattle.std.proofs.lemmas.List.Sums.{sum_by-cons}
@@ -17,7 +17,7 @@ use Rattle.dn_rdata.specs.Types.{NS, SOA}
 use Rattle.dn_store.specs.declared.unit.UnitKey.TheVariants as keys
 use Rattle.dn_store.specs.declared.unit.UnitValue.TheVariants as values
 use Rattle.dn_store.specs.Table.{IsTable}
-use Rattle.dn_store.specs.Valid.{IsValid, IsValidWrite}
+use Rattle.dn_store.specs.Valid.{IsValidWrite}
 use Rattle.dn_store.specs.Value.{fits, is_lower, row_ok, row_size, rows_grow, soas, unit_ok, value_limit, value_size}
 use Rattle.dn_store.proofs.CallerLemmas.{lower_lowered, name_lowered, table_taken, valid_taken}
 use Rattle.dn_zone.specs.Creation.{created, first_numbers, first_properties, first_rows, first_writes, joined}

@@ -1,5 +1,5 @@
 -- Each event that a valid zone may meet leaves it valid, and what it sends and asks for is valid.
-use Rattle.std.proofs.Common.{◌≡◌, ℕ, ◌+◌, ◌≤◌, Bool, true, false, cond, List, [], ◌∷◌, length, map, min, max, nat_eq, nat_lt, Option, None, Some, refl, sym, subst, arith}
+use Rattle.std.proofs.Common.{◌≡◌, ℕ, ◌+◌, ◌≤◌, Bool, true, false, cond, List, [], ◌∷◌, length, map, min, max, nat_eq, nat_lt, Option, None, Some, refl, subst, arith}
 use Rattle.std.proofs.Math.Nat.{max-le}
 use Rattle.std.proofs.lemmas.Bool.{cond_both, ltb-false}
 use Rattle.std.specs.Prelude.{IsTrue, unwrap_or}
@@ -27,7 +27,7 @@ use Rattle.dn_update.proofs.CallerLemmas.{add_allowed, written_keeps}
 use Rattle.dn_pass.specs.declared.pass.Pass.{Pass}
 use Rattle.dn_pass.specs.declared.pass.StepPlan.{StepPlan}
 use Rattle.dn_pass.specs.declared.pass.StepPlan.TheVariants as plans
-use Rattle.dn_pass.specs.Pass.{is_last_step, looked_at, new_pass_if_due, pass_after, plan_for, planned, step_plan, sweep}
+use Rattle.dn_pass.specs.Pass.{is_last_step, looked_at, new_pass_if_due, plan_for, planned, step_plan, sweep}
 use Rattle.dn_pass.proofs.CallerLemmas.{looked_valid, swept_valid}
 use Rattle.dn_link.specs.declared.packet.Changes.{Changes}
 use Rattle.dn_link.specs.Sent.{IsValidPull, IsValidRun, changes_room}
@@ -40,7 +40,7 @@ use Rattle.dn_zone.specs.declared.zone.Zone.{Zone}
 use Rattle.dn_zone.specs.Merge.{changes_of, cursor_of, winners, wins, with_cursor}
 use Rattle.dn_zone.specs.Settings.{settings_of}
 use Rattle.dn_zone.specs.Valid.{IsProperCommand, IsValidZone, Meets}
-use Rattle.dn_zone.specs.Zone.{add_wanted, admin_step, after_merge, begin_at, begin_step, begin_unless, merge_step, merged, pass_step, set_step, settings_wanted, step_by, step_of, swept_step, swept_zone, with_pass, with_table, zstep}
+use Rattle.dn_zone.specs.Zone.{add_wanted, admin_step, after_merge, begin_at, begin_step, begin_unless, merge_step, merged, pass_step, set_step, settings_wanted, step_by, step_of, swept_zone, with_pass, with_table, zstep}
 use Rattle.dn_zone.proofs.ValidSettings.{properties_grow, settings_allowed}
 
 -- ---- a zone with other units, cursors or another pass

@@ -1,5 +1,5 @@
 -- Commands of aging leave the ids of a zone's properties in order.
-use Rattle.std.proofs.Common.{◌≡◌, ◌<◌, Bool, true, false, true≢false, List, [], ◌∷◌, ◌++◌, filter, nat_lt, Option, None, Some, refl, sym, arith}
+use Rattle.std.proofs.Common.{◌≡◌, ◌<◌, Bool, true, true≢false, List, [], ◌∷◌, ◌++◌, filter, nat_lt, Option, None, Some, refl, sym, arith}
 use Rattle.std.proofs.lemmas.Bool.{cond_both, lt-ltb, ltb-true}
 use Rattle.std.specs.List.{AllByRecursion}
 use Rattle.std.specs.Int.{w32, to_le_bytes}
