@@ -1,25 +1,14 @@
 -- The changes of a table can be taken: there are no more of them than a packet has room for.
-use Rattle.std.proofs.Common.{◌≡◌, ℕ, ◌-◌, ◌≤◌, nat_le, List, [], ◌∷◌, length, map, arith, sym, ap, subst, ◌∙◌}
+use Rattle.std.proofs.Common.{◌≡◌, ℕ, ◌≤◌, List, length, map, arith, sym, ap, subst, ◌∙◌}
 use Rattle.std.specs.Prelude.{IsTrue}
 use Rattle.std.specs.List.{AllByRecursion}
-use Rattle.std.proofs.lemmas.Bool.{cond_both, leb-true}
-use Rattle.std.proofs.lemmas.List.{length-map}
 use Rattle.dn_store.specs.declared.table.ChangeRun.{ChangeRun}
 use Rattle.dn_store.specs.declared.unit.Unit as units
 use Rattle.dn_store.specs.declared.unit.Write.{Write}
-use Rattle.dn_store.specs.Table.{KeysDiffer, form_size, front_within, newer, run_after, write_of}
+use Rattle.dn_store.specs.Table.{KeysDiffer, run_after, write_of}
 use Rattle.dn_store.specs.Value.{fits}
+use Rattle.dn_store.proofs.CallerLemmas.{run_short}
 use Rattle.dn_link.specs.Sent.{CanBeTaken}
-
-front_count : (room : ℕ) (list : List units.Unit) → length (front_within room list) ≤ room
-front_count room [] = omega arith
-front_count room (unit ∷ list) =
-    let size : ℕ = form_size unit in
-    let later : length (front_within (room - size) list) ≤ room - size = front_count (room - size) list in
-    cond_both (nat_le size room) (unit ∷ front_within (room - size) list) [] (λ front. length front ≤ room) (λ is. let fit : size ≤ room = leb-true size room is in omega arith) (λ is. omega arith)
-
-run_count : (usn room top : ℕ) (list : List units.Unit) → length (map write_of (run_after usn room top list).units) ≤ room
-run_count usn room top list = rw (length-map (front_within room (newer usn list)) write_of) (front_count room (newer usn list))
 
 pub run_taken : (usn room top : ℕ) (list seen : List units.Unit) (run : ChangeRun) (writes : List Write) → room ≤ 64000
     → writes ≡ map write_of seen → seen ≡ run.units → run ≡ run_after usn room top list
@@ -28,7 +17,7 @@ pub run_taken : (usn room top : ℕ) (list seen : List units.Unit) (run : Change
 run_taken usn room top list seen run writes most are is ran keys values =
     let e : map write_of run.units ≡ writes = sym (are ∙ ap (map write_of) is) in
     let here : length (map write_of run.units) ≤ room =
-    subst (λ (one : ChangeRun). length (map write_of one.units) ≤ room) (sym ran) (run_count usn room top list) in
+    subst (λ (one : ChangeRun). length (map write_of one.units) ≤ room) (sym ran) (run_short usn room top list) in
     let count : length (map write_of run.units) ≤ 64000 = omega arith in
     record {
       keys = subst KeysDiffer e keys;
