@@ -277,6 +277,61 @@ zone create a x admin.x
 zone join b x
 ";
 
+// A label of 64 bytes, and labels of 63 bytes that pass 255 bytes together.
+const LONG_LABEL: &str = "\
+ask a aaaaaaaabbbbbbbbccccccccddddddddeeeeeeeeffffffffgggggggghhhhhhhh.x A
+";
+
+const LONG_NAME: &str = "\
+ask a aaaaaaaabbbbbbbbccccccccddddddddeeeeeeeeffffffffgggggggghhhhhhh.\
+aaaaaaaabbbbbbbbccccccccddddddddeeeeeeeeffffffffgggggggghhhhhhh.\
+aaaaaaaabbbbbbbbccccccccddddddddeeeeeeeeffffffffgggggggghhhhhhh.\
+aaaaaaaabbbbbbbbccccccccddddddddeeeeeeeeffffffffgggggggghhhhhhh A
+";
+
+/// Each line would be valid but for one word: no name, a name that is too long, a bad number, another type, a word too
+/// many.
+#[test]
+fn lines_with_one_bad_word(rt: HostRuntime) {
+    for lines in [
+        "replica c 202122232425262728292a2b2c2d2e2f ns3..x\n",
+        "replica c 202122232425262728292a2b2c2d2e2f ns3.x x\n",
+        "zone create a y admin..y\n",
+        "zone create a y admin.y y\n",
+        "zone join b y..z\n",
+        "zone join b y y\n",
+        "at 3600000000000a\n",
+        "at 36000000000000 1\n",
+        "admin a x..y aging on\n",
+        "admin a x aging on on\n",
+        "admin a x refresh 0168\n",
+        "ask a h..x A\n",
+        LONG_LABEL,
+        LONG_NAME,
+        "ask a h.x NS\n",
+        "ask a h.x A A\n",
+        "pull b a x..y\n",
+        "pull b a x x\n",
+        "pass a x..y\n",
+        "pass a x x\n",
+    ] {
+        check_bad_line(&rt, rt.alloc(), PAIR, lines, 6);
+    }
+}
+
+#[test]
+fn deliveries_with_a_bad_word(rt: HostRuntime) {
+    for lines in [
+        "pull b a x\ndeliver 01\n",
+        "pull b a x\ndeliver 4294967296\n",
+        "pull b a x\ndeliver 1 1\n",
+        "pull b a x\ndeliver\n",
+    ] {
+        let bad = Status::BadLine(7);
+        check_script(&rt, rt.alloc(), PAIR, lines, "packet 1\n", bad);
+    }
+}
+
 const COPIED: &str = "\
 admin a x add h.x 3600 A 10.0.0.1
 ask a h.x A

@@ -63,7 +63,7 @@ fn words_of_one_kind(rt: HostRuntime) {
 /// A word is this number, in 32 bits and in 64, or none up to `most`.
 fn check_number(rt: &impl Abort, word: &str, most: u32, want: Option<u32>) {
     let found = number_of(most, word.as_bytes());
-    assert_eq!(rt; found, want.ok_or(TextError::BadText), "of {word:?}");
+    assert_eq!(rt; found, want, "of {word:?}");
     let wide = number_within(u64::from(most), word.as_bytes());
     assert_eq!(rt; wide, want.map(u64::from), "of {word:?}");
 }
@@ -97,17 +97,26 @@ fn numbers_of_64_bits(rt: HostRuntime) {
     assert_eq!(rt; number_within(u64::MAX, b"18446744073709551616"), None);
 }
 
+/// A label of 64 bytes.
+const LONG_LABEL: &str = "aaaaaaaabbbbbbbbccccccccddddddddeeeeeeeeffffffffgggggggghhhhhhhh";
+
+/// A name of 257 bytes on the wire, in labels of 63 bytes.
+const LONG_NAME: &str = "\
+aaaaaaaabbbbbbbbccccccccddddddddeeeeeeeeffffffffgggggggghhhhhhh.\
+aaaaaaaabbbbbbbbccccccccddddddddeeeeeeeeffffffffgggggggghhhhhhh.\
+aaaaaaaabbbbbbbbccccccccddddddddeeeeeeeeffffffffgggggggghhhhhhh.\
+aaaaaaaabbbbbbbbccccccccddddddddeeeeeeeeffffffffgggggggghhhhhhh";
+
 /// A word isn't a name.
 fn check_no_name(rt: &impl Abort, word: &str) {
-    let error = name_of(word.as_bytes()).err();
-    assert_eq!(rt; error, Some(TextError::BadText), "of {word:?}");
+    assert!(rt; name_of(word.as_bytes()).is_none(), "of {word:?}");
 }
 
 #[test]
 fn names_of_words(rt: HostRuntime) {
     let name = name_of(b"Ns1.x").expect(&rt, "the word is a name");
     assert!(rt; is_on_wire(&name, b"\x03Ns1\x01x\0"));
-    for word in ["", "a..b", "a.\\256"] {
+    for word in ["", "a..b", "a.\\256", LONG_LABEL, LONG_NAME] {
         check_no_name(&rt, word);
     }
 }
@@ -115,7 +124,7 @@ fn names_of_words(rt: HostRuntime) {
 /// A word is the moment of so many ticks, or none.
 fn check_moment(rt: &impl Abort, word: &str, want: Option<u64>) {
     let found = moment_of(word.as_bytes()).map(|moment| moment.ticks());
-    assert_eq!(rt; found, want.ok_or(TextError::BadText), "of {word:?}");
+    assert_eq!(rt; found, want, "of {word:?}");
 }
 
 #[test]
@@ -338,11 +347,16 @@ fn words_of_no_commands(rt: HostRuntime) {
         "refresh 87601",
         "refresh 1 2",
         "norefresh -1",
+        "norefresh 1a",
+        "norefresh 1 1",
         "add",
         "add h.x 60 A",
         "add h..x 60 A 10.0.0.1",
+        "add aaaaaaaabbbbbbbbccccccccddddddddeeeeeeeeffffffffgggggggghhhhhhhh 60 A 10.0.0.1",
+        "add h.x 060 A 10.0.0.1",
         "add h.x 4294967296 A 10.0.0.1",
         "add h.x 60 AAAA 10.0.0.1",
+        "add h.x 60 A 10.0.0.256",
         "add h.x 60 A 10.0.0.1 hour",
         "add h.x 60 A 10.0.0.1 when 1",
         "add h.x 60 A 10.0.0.1 hour 4294967296",
