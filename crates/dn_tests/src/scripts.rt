@@ -289,30 +289,47 @@ aaaaaaaabbbbbbbbccccccccddddddddeeeeeeeeffffffffgggggggghhhhhhh.\
 aaaaaaaabbbbbbbbccccccccddddddddeeeeeeeeffffffffgggggggghhhhhhh A
 ";
 
-/// Each line would be valid but for one word: no name, a name that is too long, a bad number, another type, a word too
-/// many.
+/// Each line would be valid but for a word that is no name, or a name that is too long.
 #[test]
-fn lines_with_one_bad_word(rt: HostRuntime) {
+fn lines_with_a_word_that_is_no_name(rt: HostRuntime) {
     for lines in [
         "replica c 202122232425262728292a2b2c2d2e2f ns3..x\n",
-        "replica c 202122232425262728292a2b2c2d2e2f ns3.x x\n",
         "zone create a y admin..y\n",
-        "zone create a y admin.y y\n",
         "zone join b y..z\n",
-        "zone join b y y\n",
-        "at 3600000000000a\n",
-        "at 36000000000000 1\n",
         "admin a x..y aging on\n",
-        "admin a x aging on on\n",
-        "admin a x refresh 0168\n",
         "ask a h..x A\n",
         LONG_LABEL,
         LONG_NAME,
-        "ask a h.x NS\n",
-        "ask a h.x A A\n",
         "pull b a x..y\n",
-        "pull b a x x\n",
+    ] {
+        check_bad_line(&rt, rt.alloc(), PAIR, lines, 6);
+    }
+}
+
+/// Each line would be valid but for a name, a number or a type.
+#[test]
+fn lines_with_one_bad_word(rt: HostRuntime) {
+    for lines in [
         "pass a x..y\n",
+        "at 3600000000000a\n",
+        "admin a x refresh 0168\n",
+        "ask a h.x NS\n",
+    ] {
+        check_bad_line(&rt, rt.alloc(), PAIR, lines, 6);
+    }
+}
+
+/// Each line would be valid but for its last word.
+#[test]
+fn lines_with_a_word_too_many(rt: HostRuntime) {
+    for lines in [
+        "replica c 202122232425262728292a2b2c2d2e2f ns3.x x\n",
+        "zone create a y admin.y y\n",
+        "zone join b y y\n",
+        "at 36000000000000 1\n",
+        "admin a x aging on on\n",
+        "ask a h.x A A\n",
+        "pull b a x x\n",
         "pass a x x\n",
     ] {
         check_bad_line(&rt, rt.alloc(), PAIR, lines, 6);
