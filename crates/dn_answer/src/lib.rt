@@ -8,6 +8,7 @@ mod reply;
 mod replying;
 mod rows;
 mod size;
+mod threads;
 mod walk;
 
 pub use alike::equal_replicas_answer_alike;

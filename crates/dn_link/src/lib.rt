@@ -2,5 +2,6 @@
 #![tactic(auto)]
 
 mod packet;
+mod threads;
 
 pub use packet::{CHANGES_ROOM, Changes, Packet};

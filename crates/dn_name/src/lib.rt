@@ -5,6 +5,7 @@ mod error;
 mod name;
 mod order;
 mod text;
+mod threads;
 mod wire;
 
 pub use error::{NameError, NameFault, NoRoom};

@@ -5,6 +5,7 @@
 mod pass;
 mod stepping;
 mod sweeper;
+mod threads;
 
 pub use pass::{Pass, StepPlan, begin};
 pub use stepping::step;

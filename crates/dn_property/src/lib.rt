@@ -3,6 +3,7 @@
 
 mod property;
 mod rules;
+mod threads;
 
 pub use property::Property;
 pub use rules::{ZoneRules, is_due, is_stale, refresh_allowed, rules_of};

@@ -5,6 +5,7 @@
 mod data;
 mod order;
 mod record;
+mod threads;
 mod types;
 mod wire;
 

@@ -3,6 +3,7 @@
 
 mod join;
 mod stamp;
+mod threads;
 
 pub use join::{Join, Stamped, order_makes_no_difference};
 pub use stamp::{ReplicaId, Stamp};

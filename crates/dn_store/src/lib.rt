@@ -6,6 +6,7 @@ mod contents;
 mod order;
 mod rows;
 mod table;
+mod threads;
 mod unit;
 mod value;
 

@@ -8,6 +8,7 @@ mod parts;
 mod print;
 mod replica;
 mod row;
+mod threads;
 mod words;
 
 pub use address::{cut, ip_of};

@@ -4,6 +4,7 @@
 
 mod node;
 mod plan;
+mod threads;
 
 pub use node::with_added;
 pub use plan::{Limit, Plan, plan_value};

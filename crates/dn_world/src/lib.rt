@@ -5,6 +5,7 @@ mod event;
 mod laws;
 mod replication;
 mod replies;
+mod threads;
 mod world;
 
 pub use event::{WorldAnswer, WorldEvent, WorldNo};

@@ -10,6 +10,7 @@ mod laws;
 mod merging;
 mod passing;
 mod settings;
+mod threads;
 mod zone;
 
 pub use changes::changes_of;

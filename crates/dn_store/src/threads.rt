@@ -1,0 +1,14 @@
+//! Tables and their units are Send and Sync: these calls can be made for such types alone.
+
+use crate::{ChangeRun, Table, Unit, UnitKey, UnitValue, Write};
+
+fn crosses<T: Send + Sync>() {}
+
+fn types_cross() {
+    crosses::<ChangeRun>();
+    crosses::<Table>();
+    crosses::<Unit>();
+    crosses::<UnitKey>();
+    crosses::<UnitValue>();
+    crosses::<Write>();
+}
