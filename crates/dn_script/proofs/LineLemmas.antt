@@ -1,10 +1,10 @@
 -- What the bodies of single lines need of their definitions.
-use Rattle.std.proofs.Common.{◌≡◌, ℕ, List, [], ◌∷◌, ◌++◌, Option, None, Some, Result, Ok, Err, refl, ap, sym, subst, ◌∙◌}
+use Rattle.std.proofs.Common.{◌≡◌, ℕ, List, [], ◌∷◌, None, Some, Result, Ok, Err, refl, ap, sym, subst, ◌∙◌}
 use Rattle.dn_io.specs.Options.{◌>>=◌}
 use Rattle.dn_name.specs.Name.{Labels}
-use Rattle.dn_answer.specs.declared.reply.AnswerValue.{AnswerValue}
 use Rattle.dn_world.specs.declared.event.WorldAnswer.{WorldAnswer}
 use Rattle.dn_world.specs.declared.event.WorldAnswer.TheVariants.{Made}
+use Rattle.dn_world.specs.declared.event.WorldEvent.TheVariants.{Deliver}
 use Rattle.dn_world.specs.declared.world.World.{World}
 use Rattle.dn_world.specs.Ask.{world_reply}
 use Rattle.dn_world.specs.Runs.{run_from}
@@ -43,6 +43,20 @@ pub pass_steps : (script : Script) (replica : List ℕ) (apex : Labels) (at : �
     → Steps result (record script { world = after.0 }) (run_line script (lines.Pass replica apex))
 pass_steps script replica apex at after result its_number ran gives =
     subst (Steps result (record script { world = after.0 })) (sym (pass_line script replica apex at its_number ∙ ap (after_event script) ran)) (told result script after gives)
+
+-- ---- packets
+
+-- a delivery has one event
+pub deliver_line : (script : Script) (packet : ℕ) → run_line script (lines.Deliver packet) ≡ run_events script (Deliver packet ∷ [])
+unfolding run_line events_of besides
+deliver_line script packet = the_same (run_events script (Deliver packet ∷ []))
+
+-- ---- moments
+
+-- a moment has no events
+pub at_line : (script : Script) (moment : ℕ) → run_line script (lines.At moment) ≡ Some (record script { moment = moment }, [])
+unfolding run_line events_of run_events besides output_of
+at_line script moment = refl
 
 -- ---- questions
 

@@ -1,6 +1,5 @@
 -- A whole pass is a run of its events.
-use Rattle.std.proofs.Common.{◌≡◌, ℕ, zero, suc, Bool, true, false, cond, List, [], ◌∷◌, refl, arith}
-use Rattle.std.specs.List.{AllByRecursion}
+use Rattle.std.proofs.Common.{◌≡◌, ℕ, zero, suc, Bool, true, false, cond, List, [], refl, arith}
 use Rattle.dn_name.specs.Name.{IsName, Labels}
 use Rattle.dn_zone.specs.declared.event.Event.TheVariants.{Begin}
 use Rattle.dn_world.specs.declared.event.WorldAnswer.{WorldAnswer}
@@ -9,7 +8,7 @@ use Rattle.dn_world.specs.declared.event.WorldEvent.TheVariants.{Act}
 use Rattle.dn_world.specs.declared.world.World.{World}
 use Rattle.dn_world.specs.Runs.{AreProper, run_from}
 use Rattle.dn_world.specs.World.{wstep, zone_at}
-use Rattle.dn_script.specs.Passes.{is_begun, is_moved, pass_events, step_at, step_event, step_events, steps_from, steps_to_end, units_in, whole_pass}
+use Rattle.dn_script.specs.Passes.{is_begun, is_moved, pass_events, step_at, step_events, steps_from, steps_to_end, units_in, whole_pass}
 
 -- a run of one event, and where that goes on, of the others
 going_on : (goes : Bool) (after : World × WorldAnswer) (whole : World → World × WorldAnswer) (others : World → List WorldEvent)

@@ -1,18 +1,15 @@
 -- A play is one run of its events.
 use Rattle.std.proofs.Common.{◌≡◌, ℕ, ◌+◌, Bool, true, false, cond, List, [], ◌∷◌, ◌++◌, Option, None, Some, refl, ap, sym, ◌∙◌}
-use Rattle.std.specs.List.{AllByRecursion}
 use Rattle.dn_io.specs.Lines.{RawLine, is_overlong, lines_of, size_of, text_of}
 use Rattle.dn_io.specs.Options.{◌>>=◌}
 use Rattle.dn_text.specs.Words.{words_of}
 use Rattle.dn_text.proofs.CallerLemmas.{bound, given_is}
-use Rattle.dn_answer.specs.declared.reply.AnswerValue.{AnswerValue}
 use Rattle.dn_world.specs.declared.event.WorldAnswer.{WorldAnswer}
 use Rattle.dn_world.specs.declared.event.WorldAnswer.TheVariants.{Made}
 use Rattle.dn_world.specs.declared.event.WorldEvent.{WorldEvent}
 use Rattle.dn_world.specs.declared.world.World.{World}
 use Rattle.dn_world.specs.Ask.{world_reply}
-use Rattle.dn_world.specs.Runs.{AreProper, IsProper, run_from, wrun}
-use Rattle.dn_world.specs.World.{empty_world}
+use Rattle.dn_world.specs.Runs.{AreProper, run_from, wrun}
 use Rattle.dn_world.proofs.CallerLemmas.{run_then, run_world}
 use Rattle.dn_script.specs.declared.line.ScriptLine.{ScriptLine}
 use Rattle.dn_script.specs.declared.line.ScriptLine.TheVariants as lines

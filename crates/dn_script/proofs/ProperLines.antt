@@ -3,25 +3,23 @@ use Rattle.std.proofs.Common.{◌≡◌, ℕ, Bool, true, false, codes, if◌the
 use Rattle.dn_io.specs.Options.{◌>>=◌}
 use Rattle.dn_name.specs.Name.{IsName, Labels}
 use Rattle.dn_rdata.specs.Types.{A}
-use Rattle.dn_zone.specs.declared.event.Event.TheVariants.{Admin}
 use Rattle.dn_zone.specs.Valid.{IsProperCommand}
 use Rattle.dn_text.specs.Moments.{moment_of}
 use Rattle.dn_text.specs.Names.{name_word}
 use Rattle.dn_text.specs.Numbers.{number_within}
-use Rattle.dn_text.specs.Replicas.{id_of, is_replica_name}
+use Rattle.dn_text.specs.Replicas.{id_of}
 use Rattle.dn_text.specs.Types.{is_type_a}
 use Rattle.dn_text.specs.Words.{is_word, words_of}
 use Rattle.dn_text.proofs.CallerLemmas.{bound, chosen, given_is, name_is_name}
 use Rattle.dn_admin.specs.Command.{command_of}
 use Rattle.dn_admin.proofs.CallerLemmas.{proper_command}
 use Rattle.dn_world.specs.declared.event.WorldEvent.{WorldEvent}
-use Rattle.dn_world.specs.declared.event.WorldEvent.TheVariants.{Act, Create, Deliver, Join, Pull, Replica}
+use Rattle.dn_world.specs.declared.event.WorldEvent.TheVariants.{Replica}
 use Rattle.dn_world.specs.Runs.{AreProper}
 use Rattle.dn_script.specs.declared.line.ScriptLine.{ScriptLine}
 use Rattle.dn_script.specs.declared.line.ScriptLine.TheVariants as lines
 use Rattle.dn_script.specs.declared.script.Script.{Script}
 use Rattle.dn_script.specs.Line.{admin_line, ask_line, at_line, create_line, deliver_line, event_line, join_line, line_of, pass_line, pull_line, replica_line, zone_line}
-use Rattle.dn_script.specs.Passes.{pass_events}
 use Rattle.dn_script.specs.Play.{events_of, events_or_none, is_new_name, line_events, replica_number, text_events}
 use Rattle.dn_script.specs.Words.{does_nothing}
 use Rattle.dn_script.proofs.PassRuns.{pass_proper}

@@ -1,5 +1,5 @@
 -- A whole pass over a zone comes to its end: each of its steps that goes on leaves fewer units to look at.
-use Rattle.std.proofs.Common.{◌≡◌, ℕ, zero, suc, ◌+◌, ◌≤◌, Bool, true, false, not, cond, List, [], ◌∷◌, length, nat_lt, refl, ap, sym, subst, arith, ◌∙◌, Option, None, Some}
+use Rattle.std.proofs.Common.{◌≡◌, ℕ, zero, suc, ◌+◌, ◌≤◌, Bool, true, false, cond, List, length, nat_lt, refl, ap, sym, arith, ◌∙◌, Option, None, Some}
 use Rattle.std.proofs.lemmas.Bool.{false≢true}
 use Rattle.std.specs.List.{AllByRecursion, position_or_len}
 use Rattle.std.specs.Prelude.{find, position, slice_get, slice_set}

@@ -184,7 +184,7 @@ impl Script {
     }
 
     // Runs a line, and answers what it prints.
-    #[tactic(auto, unfolding(crate::specs::Play::run_line, crate::specs::Play::events_of, crate::specs::Play::besides))]
+    #[tactic(auto, using(crate::proofs::LineLemmas::at_line, crate::proofs::LineLemmas::deliver_line))]
     fn run_line(&mut self, alloc: Global, line: ScriptLine) -> Result<List<u8>, Bad>
         ensures { Steps result self.new (run_line self.old line) }
     {
