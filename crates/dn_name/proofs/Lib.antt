@@ -1,11 +1,14 @@
 pub mod CallerLemmas
+pub mod FirstFaultLemmas
 pub mod LabelTurnLemmas
 pub mod LabelWalkLemmas
 pub mod LowerCaseLemmas
 pub mod OrderLemmas
+pub mod PointerTurnLemmas
 pub mod PushedLabelLemmas
 pub mod ReadAgainLemmas
 pub mod ReadBack
+pub mod SpelledLemmas
 pub mod TextReadingLemmas
 pub mod TextWritingLemmas
 pub mod WireNameLemmas

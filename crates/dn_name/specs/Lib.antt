@@ -1,6 +1,10 @@
+pub mod Exact
+pub mod FirstFault
 pub mod Name
 pub mod Reading
+pub mod Spelled
 pub mod Text
+pub mod Turning
 pub mod Walk
 pub mod Wire
 pub mod Writing

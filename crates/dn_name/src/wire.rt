@@ -3,6 +3,7 @@
 ghost use Rattle.std.specs.Prelude.{◌≡◌, ◌↔◌, ℕ, ◌+◌, ◌<◌, ◌≤◌, List, ◌++◌, length, take, drop, option_map, Some, IfOk, IfSome, IsOk, OnErr};
 ghost use Rattle.std.specs.List.{AllByRecursion};
 ghost use Rattle.dn_name.specs.Name.{Labels, IsLabel, IsName, wire_len, wire_of};
+ghost use Rattle.dn_name.specs.Spelled.{Spelled};
 ghost use Rattle.dn_name.specs.Walk.{first_label, first_of};
 ghost use Rattle.dn_name.specs.Wire.{labels_at, plain_name};
 
@@ -18,6 +19,8 @@ impl Name {
         ensures room { IsOk result ↔ (at + wire_len self.now ≤ length out.old) }
         ensures ok { IfOk result (λ after. (after ≡ at + wire_len self.now) × (out.new ≡ take at out.old ++ wire_of self.now ++ drop after out.old)) }
         ensures err { OnErr result (out.new ≡ out.old) }
+        ensures name { IsName self.now }
+        ensures spelled { IfOk result (λ after. Spelled out.new at self.now after) }
     {
         let wire = self.wire();
         let after = at.checked_add(wire.len()).ok_or(NoRoom)?;

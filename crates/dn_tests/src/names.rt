@@ -157,6 +157,117 @@ fn read_from_bytes(rt: HostRuntime) {
     }
 }
 
+/// What is read of a message at a place.
+fn read_at(rt: &impl Abort, message: &[u8], at: usize) -> Result<(Name, usize), NameError> {
+    assert!(rt; at <= message.len());
+    Name::read_wire(message, at)
+}
+
+/// At a place of a message stands the name of these bytes, and so many are before what is behind it.
+fn check_spelled(rt: &impl Abort, message: &[u8], at: usize, wire: &[u8], next: usize) {
+    let (name, after) = read_at(rt, message, at).ok().expect(rt, "a name is spelled");
+    assert!(rt; is_on_wire(&name, wire));
+    assert_eq!(rt; after, next);
+}
+
+#[test]
+fn names_behind_pointers(rt: HostRuntime) {
+    for (message, at, wire, next) in [
+        (b"\x03org\0tail".as_slice(), 0, ORG, 5),
+        (b"\x03org\0", 4, ROOT, 5),
+        (b"\x03org\0\x07example\xc0\0tail", 5, EXAMPLE, 15),
+        (b"\x03org\0\x07example\xc0\0\x01a\xc0\x05", 15, HOST, 19),
+        (b"\x03org\0\xc0\0\xc0\x05", 7, ORG, 9),
+        (b"\x01a\x03org\0\xc0\x02", 7, ORG, 9),
+        (b"\0\xc0\0", 1, ROOT, 3),
+    ] {
+        check_spelled(&rt, message, at, wire, next);
+    }
+}
+
+/// At a place of a message no name is spelled, and this is wrong first.
+fn check_misspelled(rt: &impl Abort, message: &[u8], at: usize, kind: NameFault, place: usize) {
+    let found = read_at(rt, message, at).err();
+    assert_eq!(rt; found, Some(NameError { kind, place }));
+}
+
+/// To itself, to a later place, to its segment's start and to its own second byte; behind a pointer the first one is
+/// at fault.
+#[test]
+fn pointers_that_lead_nowhere(rt: HostRuntime) {
+    for (message, at, place) in [
+        (b"\xc0\0".as_slice(), 0, 0),
+        (b"\0\xc0\x01", 1, 1),
+        (b"\xc0\x02\0", 0, 0),
+        (b"\xff\xff\0", 0, 0),
+        (b"\0\x01a\xc0\x01", 1, 3),
+        (b"\0\x01a\xc0\x02", 1, 3),
+        (b"\x01a\xc0\0\x01b\xc0\0", 4, 6),
+        (b"\0\xc0\x01\xc0\x01\xc0\x03", 5, 5),
+    ] {
+        check_misspelled(&rt, message, at, NameFault::BadPointer, place);
+    }
+}
+
+#[test]
+fn bytes_that_are_no_lengths(rt: HostRuntime) {
+    for (message, at, place) in [
+        (b"\x40\0".as_slice(), 0, 0),
+        (b"\xbf\0", 0, 0),
+        (b"\x01a\x80\0", 0, 2),
+        (b"\x40\xc0\0", 1, 1),
+        (b"\x01a\x40\x01b\xc0\0", 3, 5),
+    ] {
+        check_misspelled(&rt, message, at, NameFault::LabelTooLong, place);
+    }
+}
+
+#[test]
+fn messages_that_end_in_a_name(rt: HostRuntime) {
+    for (message, at, place) in [
+        (b"".as_slice(), 0, 0),
+        (b"\x03", 0, 1),
+        (b"\x03or", 0, 3),
+        (b"\x03org", 0, 4),
+        (b"\x03org\0", 5, 5),
+        (b"\x03org\0\x01", 5, 6),
+        (b"\x03org\0\x01a", 5, 7),
+        (b"\x03org\0\x01a\xc0", 5, 8),
+    ] {
+        check_misspelled(&rt, message, at, NameFault::Short, place);
+    }
+}
+
+/// The wire of `long`, and behind its zero byte a label with a pointer to its front.
+fn long_with_one_more(last: u8) -> [u8; 259] {
+    let mut wire = long(last);
+    for (place, byte) in b"\x01b\xc0\0".iter().enumerate() {
+        if let Some(target) = wire.get_mut(194 + usize::from(last) + place) {
+            *target = *byte;
+        }
+    }
+    wire
+}
+
+/// A name of 255 bytes through a pointer, and one of 256. A label that makes the name too long is at fault also where
+/// the message ends in it.
+#[test]
+fn long_names_in_messages(rt: HostRuntime) {
+    let (_, next) = read_at(&rt, &long_with_one_more(59), 253)
+        .ok()
+        .expect(&rt, "the name has 255 bytes");
+    assert_eq!(rt; next, 257);
+    let (full, over, more) = (long(61), long(62), long_with_one_more(60));
+    for (message, at, kind, place) in [
+        (more.as_slice(), 254, NameFault::NameTooLong, 256),
+        (&over, 0, NameFault::NameTooLong, 192),
+        (&over[..200], 0, NameFault::NameTooLong, 192),
+        (&full[..200], 0, NameFault::Short, 200),
+    ] {
+        check_misspelled(&rt, message, at, kind, place);
+    }
+}
+
 /// A text is the name of these bytes.
 fn check_text(rt: &impl Abort, text: &[u8], wire: &[u8]) {
     let name = Name::from_text(text).ok().expect(rt, "the text is a name");
