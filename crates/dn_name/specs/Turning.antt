@@ -4,7 +4,6 @@ use Rattle.dn_name.specs.FirstFault.{FirstFault}
 use Rattle.dn_name.specs.Name.{Labels, IsName, wire_len}
 use Rattle.dn_name.specs.Spelled.{Segment}
 use Rattle.dn_name.specs.declared.error.NameError.{NameError}
-use Rattle.dn_name.specs.declared.error.NameFault.{NameFault}
 use Rattle.dn_name.specs.declared.pointers.Walk.{Walk}
 
 -- the walk completes this name, and `next` is the place behind it

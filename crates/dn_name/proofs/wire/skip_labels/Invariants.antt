@@ -1,4 +1,4 @@
-use Rattle.std.proofs.Common.{◌≡◌, ℕ, List, drop}
+use Rattle.std.proofs.Common.{◌≡◌, drop}
 use Rattle.std.specs.List.{AllByRecursion}
 use Rattle.dn_name.specs.Name.{Labels, IsLabel, wire_of}
 use Rattle.dn_name.proofs.wire.skip_labels.Given as goal

@@ -1,4 +1,4 @@
-use Rattle.std.proofs.Common.{◌≡◌, ◌∙◌, ◌++◌, sym, ap, ap₂, arith, ℕ, List, drop, Some, None}
+use Rattle.std.proofs.Common.{◌≡◌, ◌∙◌, ◌++◌, sym, ap, ap₂, arith, ℕ, drop, Some, None}
 use Rattle.dn_name.specs.Name.{Labels, wire_len, wire_of}
 use Rattle.dn_name.proofs.LabelWalkLemmas.{plain_long, plain_whole, plain_found}
 use Rattle.dn_name.proofs.ReadAgainLemmas.{len_again, name_again, spelled_by}

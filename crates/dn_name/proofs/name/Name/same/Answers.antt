@@ -1,4 +1,4 @@
-use Rattle.std.proofs.Common.{◌∙◌, ap₂, ℕ, List, nat_eq}
+use Rattle.std.proofs.Common.{◌∙◌, ap₂, nat_eq}
 use lib.Pointwise.{pointwise}
 use Rattle.dn_name.specs.Name.{Labels}
 use Rattle.dn_name.proofs.OrderLemmas.{same_bytes}
