@@ -165,7 +165,9 @@ fn read_at(rt: &impl Abort, message: &[u8], at: usize) -> Result<(Name, usize), 
 
 /// At a place of a message stands the name of these bytes, and so many are before what is behind it.
 fn check_spelled(rt: &impl Abort, message: &[u8], at: usize, wire: &[u8], next: usize) {
-    let (name, after) = read_at(rt, message, at).ok().expect(rt, "a name is spelled");
+    let (name, after) = read_at(rt, message, at)
+        .ok()
+        .expect(rt, "a name is spelled");
     assert!(rt; is_on_wire(&name, wire));
     assert_eq!(rt; after, next);
 }
@@ -249,22 +251,40 @@ fn long_with_one_more(last: u8) -> [u8; 259] {
     wire
 }
 
-/// A name of 255 bytes through a pointer, and one of 256. A label that makes the name too long is at fault also where
-/// the message ends in it.
+/// A name of 255 bytes through a pointer, and one of 256.
 #[test]
-fn long_names_in_messages(rt: HostRuntime) {
-    let (_, next) = read_at(&rt, &long_with_one_more(59), 253)
+fn long_names_through_pointers(rt: HostRuntime) {
+    let (name, next) = read_at(&rt, &long_with_one_more(59), 253)
         .ok()
         .expect(&rt, "the name has 255 bytes");
-    assert_eq!(rt; next, 257);
-    let (full, over, more) = (long(61), long(62), long_with_one_more(60));
-    for (message, at, kind, place) in [
-        (more.as_slice(), 254, NameFault::NameTooLong, 256),
-        (&over, 0, NameFault::NameTooLong, 192),
-        (&over[..200], 0, NameFault::NameTooLong, 192),
-        (&full[..200], 0, NameFault::Short, 200),
+    assert_eq!(rt; (name.wire_len(), next), (255, 257));
+    check_misspelled(
+        &rt,
+        &long_with_one_more(60),
+        254,
+        NameFault::NameTooLong,
+        256,
+    );
+}
+
+/// What is wrong with the wire of `long`, of which a message has so many bytes.
+fn check_cut(rt: &impl Abort, last: u8, len: usize, kind: NameFault, place: usize) {
+    let wire = long(last);
+    let (message, _) = wire.split_at_checked(len).expect(rt, "the wire is longer");
+    check_misspelled(rt, message, 0, kind, place);
+}
+
+/// A label that makes the name too long is at fault also where the message ends in it.
+#[test]
+fn long_names_that_are_cut(rt: HostRuntime) {
+    for (last, len, kind, place) in [
+        (62, 259, NameFault::NameTooLong, 192),
+        (62, 200, NameFault::NameTooLong, 192),
+        (62, 193, NameFault::NameTooLong, 192),
+        (61, 254, NameFault::Short, 254),
+        (61, 192, NameFault::Short, 192),
     ] {
-        check_misspelled(&rt, message, at, kind, place);
+        check_cut(&rt, last, len, kind, place);
     }
 }
 
