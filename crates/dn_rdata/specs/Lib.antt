@@ -1,3 +1,5 @@
 pub mod Data
+pub mod Laid
+pub mod Layout
 pub mod Record
 pub mod Types

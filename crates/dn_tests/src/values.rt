@@ -1,12 +1,12 @@
 ghost use Rattle.std.specs.Prelude.{◌≡◌};
 ghost use Rattle.dn_stamp.specs.declared.join.Stamped as values;
 
-use crate::fixtures::{LAST_VERSION, check_bytes, crosses, list_of, name, name_on_wire};
+use crate::fixtures::{LAST_VERSION, TXT, check_bytes, crosses, list_of, name, name_on_wire};
 use dn_io::{Duplicate, List};
 use dn_property::{Property, ZoneRules, is_due, is_stale, refresh_allowed, rules_of};
 use dn_rdata::{
-    A, AAAA, ANY, AXFR, CNAME, IN, MX, NS, PTR, Record, SOA, SRV, answerable, compare_rows,
-    minimum_of, names_in, number_of_bytes, push_wire, target_of,
+    A, AAAA, ANY, AXFR, CNAME, IN, MX, NS, PTR, Part, Record, SOA, SRV, answerable, check_rdata,
+    compare_rows, minimum_of, names_in, number_of_bytes, parts_of, push_wire, target_of,
 };
 use dn_stamp::{Join, ReplicaId, Stamp, Stamped, order_makes_no_difference};
 use std::alloc::Global;
@@ -462,4 +462,116 @@ fn a_name_behind_other_bytes(rt: HostRuntime) {
     let mut out = list_of(&rt, rt.alloc(), b"ab");
     push_wire(&mut out, &name_on_wire(&rt, b"\x02Ns\x01x\0")).expect(&rt, "memory");
     check_bytes(&rt, out.as_slice(), b"ab\x02Ns\x01x\0", "the name behind");
+}
+
+/// The place where data of a type go wrong; none where they are valid.
+fn fault_in(rtype: u16, bytes: &[u8]) -> Option<usize> {
+    match check_rdata(rtype, bytes) {
+        Ok(()) => None,
+        Err(fault) => Some(fault.place),
+    }
+}
+
+/// Data of a type go wrong at this place, or are valid.
+fn check_data(rt: &impl Abort, rtype: u16, bytes: &[u8], want: Option<usize>) {
+    assert_eq!(rt; fault_in(rtype, bytes), want, "data of type {rtype}");
+}
+
+/// So many bytes at the front, or all that there are.
+fn front_of(bytes: &[u8], len: usize) -> &[u8] {
+    match bytes.split_at_checked(len) {
+        Some((front, _)) => front,
+        None => bytes,
+    }
+}
+
+/// Without their last byte these are data of a type, and with it they go wrong there; without the last two bytes they go
+/// wrong at the place of the part that is cut.
+fn check_around(rt: &impl Abort, rtype: u16, bytes: &[u8], cut: usize) {
+    let len = bytes.len().saturating_sub(1);
+    check_data(rt, rtype, front_of(bytes, len), None);
+    check_data(rt, rtype, bytes, Some(len));
+    check_data(rt, rtype, front_of(bytes, len.saturating_sub(1)), Some(cut));
+}
+
+#[test]
+fn data_a_byte_too_short_or_too_long(rt: HostRuntime) {
+    let data: [(u16, &[u8], usize); 6] = [
+        (0, b"12345678+", 0),
+        (A, b"1234+", 0),
+        (AAAA, b"0123456789abcdef+", 0),
+        (NS, b"\x02ns\x01x\0+", 0),
+        (CNAME, b"\x01A\x01x\0+", 0),
+        (PTR, b"\0+", 0),
+    ];
+    for (rtype, bytes, cut) in data {
+        check_around(&rt, rtype, bytes, cut);
+    }
+}
+
+#[test]
+fn data_of_several_parts_too_short_or_too_long(rt: HostRuntime) {
+    let data: [(u16, &[u8], usize); 4] = [
+        (SOA, b"\x01m\0\x01r\0....................+", 6),
+        (13, b"\x01c\x02os+", 2),
+        (MX, b"\0\x0a\x02mx\x01x\0+", 2),
+        (SRV, b"\0\x01\0\x02\x005\x02ns\x01x\0+", 6),
+    ];
+    for (rtype, bytes, cut) in data {
+        check_around(&rt, rtype, bytes, cut);
+    }
+}
+
+#[test]
+fn data_of_one_or_more_strings(rt: HostRuntime) {
+    let data: [(&[u8], Option<usize>); 7] = [
+        (b"", Some(0)),
+        (b"\0", None),
+        (b"\x02ab", None),
+        (b"\x02ab\0\x01c", None),
+        (b"\x02a", Some(0)),
+        (b"\x02ab\x02c", Some(0)),
+        (b"\x02ab\x01cd", Some(0)),
+    ];
+    for (bytes, want) in data {
+        check_data(&rt, TXT, bytes, want);
+    }
+}
+
+/// A name passes the data's end, has a pointer, or stands in parts that are cut.
+#[test]
+fn names_in_data_that_go_wrong(rt: HostRuntime) {
+    let data: [(u16, &[u8], usize); 8] = [
+        (NS, b"", 0),
+        (NS, b"\x02ns", 0),
+        (NS, b"\x03ns\0", 0),
+        (NS, b"\xc0\0", 0),
+        (CNAME, b"\x01a\xc0\0", 0),
+        (MX, b"\0", 0),
+        (MX, b"\0\x0a\x03mx\0", 2),
+        (SOA, b"\x01m\0\x16r\0....................", 3),
+    ];
+    for (rtype, bytes, place) in data {
+        check_data(&rt, rtype, bytes, Some(place));
+    }
+}
+
+#[test]
+fn data_of_any_bytes(rt: HostRuntime) {
+    for rtype in [3, 41, 49, 250, AXFR, ANY, 65_535] {
+        check_data(&rt, rtype, b"", None);
+        check_data(&rt, rtype, b"\xc0+", None);
+    }
+}
+
+/// The data of a type consist of these parts.
+fn check_parts(rt: &impl Abort, rtype: u16, want: &[Part]) {
+    assert!(rt; parts_of(rtype) == want, "parts of type {rtype}");
+}
+
+#[test]
+fn parts_of_types(rt: HostRuntime) {
+    check_parts(&rt, SRV, &[Part::Bytes(6), Part::OneName]);
+    check_parts(&rt, TXT, &[Part::Texts]);
+    check_parts(&rt, 49, &[Part::Rest]);
 }

@@ -1,0 +1,82 @@
+-- Which parts the data of a type have, and what bytes they are (RFC 1035 3.3 and 3.4.1, RFC 3596 2.2, RFC 2782).
+use Rattle.std.specs.Prelude.{◌≡◌, ℕ, ◌≤◌, ◌||◌, nat_eq, if◌then◌else◌, ◌+◌, List, [], ◌∷◌, ◌++◌, length, replicate, ◌⊎◌}
+use Rattle.dn_name.specs.Name.{Labels, IsName, wire_of}
+use Rattle.dn_rdata.specs.Record.{bytes_before_names, bytes_behind_names, names_in}
+use Rattle.dn_rdata.specs.Types.{A, NS, CNAME, SOA, PTR, MX, AAAA, SRV}
+use Rattle.dn_rdata.specs.declared.parts.Part.{Part}
+use Rattle.dn_rdata.specs.declared.parts.Part.TheVariants.{Bytes, OneName, OneText, Texts, Rest}
+
+-- The parts of a type's data, in their order on the wire. A tombstone's are the 8 bytes of its time, an SOA's five numbers
+-- are one part, and so are the three of an SRV. Types 13 and 16 are HINFO and TXT.
+abbrev pub parts_of : ℕ → List Part
+parts_of rtype =
+    if nat_eq rtype 0 then Bytes 8 ∷ []
+    else (if nat_eq rtype A then Bytes 4 ∷ []
+    else (if nat_eq rtype NS || nat_eq rtype CNAME || nat_eq rtype PTR then OneName ∷ []
+    else (if nat_eq rtype SOA then OneName ∷ (OneName ∷ (Bytes 20 ∷ []))
+    else (if nat_eq rtype 13 then OneText ∷ (OneText ∷ [])
+    else (if nat_eq rtype MX then Bytes 2 ∷ (OneName ∷ [])
+    else (if nat_eq rtype 16 then Texts ∷ []
+    else (if nat_eq rtype AAAA then Bytes 16 ∷ []
+    else (if nat_eq rtype SRV then Bytes 6 ∷ (OneName ∷ [])
+    else Rest ∷ []))))))))
+
+-- a string is its length byte and its bytes
+abbrev pub text_bytes : List ℕ → List ℕ
+text_bytes text = length text ∷ text
+
+-- strings one behind another
+abbrev pub texts_bytes : List (List ℕ) → List ℕ
+texts_bytes [] = []
+texts_bytes (text ∷ texts) = text_bytes text ++ texts_bytes texts
+
+-- no string or more
+abbrev pub AreTexts : List ℕ → Type 0
+AreTexts bytes = (texts : List (List ℕ)) × (bytes ≡ texts_bytes texts)
+
+-- A piece of the data is this part, where these bytes are behind it. A part that goes up to the end has none behind it.
+abbrev pub IsPart : Part → List ℕ → List ℕ → Type 0
+IsPart (Bytes count) piece back = length piece ≡ count
+IsPart OneName piece back = (name : Labels) × IsName name × (piece ≡ wire_of name)
+IsPart OneText piece back = (text : List ℕ) × (piece ≡ text_bytes text)
+IsPart Texts piece back = (text : List ℕ) × (texts : List (List ℕ)) × (piece ≡ texts_bytes (text ∷ texts)) × (back ≡ [])
+IsPart Rest piece back = back ≡ []
+
+-- the part stands at the front of the bytes, and behind it stands the rest
+abbrev pub Begins : Part → List ℕ → List ℕ → Type 0
+Begins part bytes back = (piece : List ℕ) × (bytes ≡ piece ++ back) × IsPart part piece back
+
+-- the bytes are these parts, one behind another
+abbrev pub AreParts : List Part → List ℕ → Type 0
+AreParts [] bytes = bytes ≡ []
+AreParts (part ∷ parts) bytes = (back : List ℕ) × Begins part bytes back × AreParts parts back
+
+-- the bytes are data of the type: its parts without pointers, and nothing behind them
+abbrev pub IsData : ℕ → List ℕ → Type 0
+IsData rtype bytes = AreParts (parts_of rtype) bytes
+
+-- Where the bytes aren't these parts, so much is left of them from the first part on that doesn't stand where it should.
+-- Behind the last part nothing should be left.
+abbrev pub FailsAt : List Part → List ℕ → List ℕ → Type 0
+FailsAt [] bytes left = (1 ≤ length bytes) × (left ≡ bytes)
+FailsAt (part ∷ parts) bytes left =
+    (((back : List ℕ) → Begins part bytes back → ⊥) × (left ≡ bytes)) ⊎ ((back : List ℕ) × Begins part bytes back × FailsAt parts back left)
+
+-- how many of the parts are names
+abbrev pub names_among : List Part → ℕ
+names_among [] = 0
+names_among (Bytes count ∷ parts) = names_among parts
+names_among (OneName ∷ parts) = 1 + names_among parts
+names_among (OneText ∷ parts) = names_among parts
+names_among (Texts ∷ parts) = names_among parts
+names_among (Rest ∷ parts) = names_among parts
+
+-- a part of so many bytes; none of no bytes
+abbrev pub some_bytes : ℕ → List Part
+some_bytes count = if nat_eq count 0 then [] else Bytes count ∷ []
+
+-- What is said of a type's names agrees with its parts: how many there are, and that they stand one behind another between
+-- so many bytes before them and so many behind.
+abbrev pub NamesAgree : ℕ → Type 0
+NamesAgree rtype = (names_in rtype ≡ names_among (parts_of rtype))
+    × (1 ≤ names_in rtype → parts_of rtype ≡ some_bytes (bytes_before_names rtype) ++ (replicate (names_in rtype) OneName ++ some_bytes (bytes_behind_names rtype)))
