@@ -8,6 +8,8 @@ mod fixtures;
 #[cfg(test)]
 mod io;
 #[cfg(test)]
+mod messages;
+#[cfg(test)]
 mod names;
 #[cfg(test)]
 mod passes;

@@ -1,0 +1,5 @@
+pub mod AdditionalLemmas
+pub mod FieldLemmas
+pub mod QueryLemmas
+pub mod RecordLemmas
+pub mod WritingLemmas

@@ -1,0 +1,7 @@
+pub mod Fields
+pub mod Header
+pub mod Kind
+pub mod Query
+pub mod Reading
+pub mod Record
+pub mod Writing

@@ -1,0 +1,42 @@
+use dn_name::{NameError, NameFault};
+
+/// Why bytes aren't a message.
+#[derive(Clone, Copy, Debug, PartialEq, Eq)]
+pub enum FormFault {
+    /// The message ends inside a field.
+    Short,
+    /// A name can't be read.
+    Name(NameFault),
+    /// There isn't exactly one question.
+    QuestionCount,
+    /// A section has records in which there may be none.
+    SectionCount,
+    /// A record is a second OPT record (RFC 6891 6.1.1).
+    TwoOpts,
+    /// Bytes follow the last field.
+    Trailing,
+}
+
+/// Why bytes aren't a message, and the place of the byte at fault, from 0. The place of a field that the message's end
+/// cuts is the message's length.
+#[derive(Clone, Copy, Debug, PartialEq, Eq)]
+pub struct FormError {
+    pub place: usize,
+    pub kind: FormFault,
+}
+
+// The fault of a field that the message's end cuts.
+pub(crate) fn cut(bytes: &[u8]) -> FormError {
+    FormError {
+        place: bytes.len(),
+        kind: FormFault::Short,
+    }
+}
+
+// The fault of a name in the message.
+pub(crate) fn name_fault(error: NameError) -> FormError {
+    FormError {
+        place: error.place,
+        kind: FormFault::Name(error.kind),
+    }
+}

@@ -1,0 +1,19 @@
+//! DNS messages (RFC 1035 4.1): which kind of message bytes are, and queries read from bytes and written. No call takes
+//! memory.
+#![tactic(auto)]
+
+mod additional;
+mod error;
+mod header;
+mod kind;
+mod number;
+mod query;
+mod question;
+mod record;
+mod threads;
+mod writing;
+
+pub use error::{FormError, FormFault};
+pub use kind::{Kind, kind_of};
+pub use query::{Opt, Query, read_query};
+pub use writing::write_query;
