@@ -7,28 +7,29 @@ use Rattle.dn_message.specs.declared.query.Opt.{Opt}
 use Rattle.dn_message.specs.declared.record.RecordHead.{RecordHead}
 use Rattle.dn_message.specs.Query.{HasOpt, is_opt, is_signature, opt_of}
 use Rattle.dn_message.specs.Reading.{Completes, FindsOpt, PassesOne, SeesOne, first_opt, has_signature, saw}
-use Rattle.dn_message.specs.Record.{Entries, Entry, IsEntry}
+use Rattle.dn_message.specs.Record.{AreRrs, IsRr, any_data}
+use Rattle.dn_message.specs.declared.rr.Rr.{Rr}
 
-module _ (entry : Entry) (opts : List Entry) where
+module _ (row : Rr) (opts : List Rr) where
   opt_goes : (b : Bool) (o : Option Opt) (s t : Bool) (new : Seen) (found : Option Opt)
-      → (if b then first_opt o (record { opt = Some (opt_of entry); signed = s }) else Some (record { opt = o; signed = t })) ≡ Some new
-      → FindsOpt new.opt opts found → FindsOpt o (cond b (entry ∷ opts) opts) found
+      → (if b then first_opt o (record { opt = Some (opt_of row); signed = s }) else Some (record { opt = o; signed = t })) ≡ Some new
+      → FindsOpt new.opt opts found → FindsOpt o (cond b (row ∷ opts) opts) found
   opt_goes true None s t new found e f =
-      let is : Some (opt_of entry) ≡ new.opt = cc in
+      let is : Some (opt_of row) ≡ new.opt = cc in
       let h = subst (λ o. FindsOpt o opts found) (sym is) f in
-      subst (HasOpt (entry ∷ opts)) (sym h.1) (entry, ap (λ xs. entry ∷ xs) h.0, refl)
+      subst (HasOpt (row ∷ opts)) (sym h.1) (row, ap (λ xs. row ∷ xs) h.0, refl)
   opt_goes true (Some o) s t new found e f = absurd (cc)
   opt_goes false o s t new found e f =
       let is : new.opt ≡ o = cc in
       subst (λ x. FindsOpt x opts found) is f
 
   opt_only : (b : Bool) (o : Option Opt) (s t : Bool) (new : Seen) (found : Option Opt)
-      → (if b then first_opt o (record { opt = Some (opt_of entry); signed = s }) else Some (record { opt = o; signed = t })) ≡ Some new
-      → FindsOpt o (cond b (entry ∷ opts) opts) found → FindsOpt new.opt opts found
+      → (if b then first_opt o (record { opt = Some (opt_of row); signed = s }) else Some (record { opt = o; signed = t })) ≡ Some new
+      → FindsOpt o (cond b (row ∷ opts) opts) found → FindsOpt new.opt opts found
   opt_only true None s t new None e f = absurd (cc)
   opt_only true None s t new (Some opt) e f =
-      let is : Some (opt_of entry) ≡ new.opt = cc in
-      let same : entry ≡ f.0 = cc in
+      let is : Some (opt_of row) ≡ new.opt = cc in
+      let same : row ≡ f.0 = cc in
       subst (λ o. FindsOpt o opts (Some opt)) is (cc, ap Some (f.2 ∙ ap opt_of (sym same)))
   opt_only true (Some o) s t new found e f = absurd (cc)
   opt_only false o s t new found e f =
@@ -36,14 +37,14 @@ module _ (entry : Entry) (opts : List Entry) where
       subst (λ x. FindsOpt x opts found) is f
 
   opt_none : (b : Bool) (o : Option Opt) (s t : Bool) (found : Option Opt)
-      → (if b then first_opt o (record { opt = Some (opt_of entry); signed = s }) else Some (record { opt = o; signed = t })) ≡ None
-      → FindsOpt o (cond b (entry ∷ opts) opts) found → ⊥
+      → (if b then first_opt o (record { opt = Some (opt_of row); signed = s }) else Some (record { opt = o; signed = t })) ≡ None
+      → FindsOpt o (cond b (row ∷ opts) opts) found → ⊥
   opt_none true None s t found e f = absurd (cc)
   opt_none true (Some o) s t found e f = absurd (cc f.0)
   opt_none false o s t found e f = absurd (cc)
 
   signed_on : (b : Bool) (o : Option Opt) (s t any : Bool) (new : Seen) → (b ≡ true → t ≡ false)
-      → (if b then first_opt o (record { opt = Some (opt_of entry); signed = s }) else Some (record { opt = o; signed = s || t })) ≡ Some new
+      → (if b then first_opt o (record { opt = Some (opt_of row); signed = s }) else Some (record { opt = o; signed = s || t })) ≡ Some new
       → (new.signed || any) ≡ (s || (t || any))
   signed_on true None s t any new h e =
       let is : new.signed ≡ s = cc in
@@ -60,62 +61,62 @@ module _ (entry : Entry) (opts : List Entry) where
 disjoint : (n : ℕ) → nat_eq n 41 ≡ true → nat_eq n 250 ≡ false
 disjoint n h = grind (arith, nat_tests)
 
-module _ (message : List ℕ) (at next : ℕ) (entry : Entry) (is : IsEntry message at entry next)
-    (only : (other : Entry × ℕ) → IsEntry message at other.0 other.1 → other ≡ (entry, next)) (old : Seen) where
-  sees_one : (new : Seen) → saw old entry.rtype entry.rclass entry.ttl ≡ Some new → (count : ℕ) → SeesOne message count at old next new
+module _ (message : List ℕ) (at next : ℕ) (row : Rr) (is : IsRr any_data message at row next)
+    (only : (other : Rr × ℕ) → IsRr any_data message at other.0 other.1 → other ≡ (row, next)) (old : Seen) where
+  sees_one : (new : Seen) → saw old row.rtype row.rclass row.ttl ≡ Some new → (count : ℕ) → SeesOne message count at old next new
   sees_one new e count =
       record {
         goes = λ final f. record {
-          entries = entry ∷ f.entries;
+          rows = row ∷ f.rows;
           count_is = omega (arith, f.count_is);
           stand = (next, is, f.stand);
-          opt_is = opt_goes entry (filter is_opt f.entries) (is_opt entry) old.opt old.signed (old.signed || nat_eq entry.rtype 250) new final.opt e f.opt_is;
-          signed_is = f.signed_is ∙ signed_on entry [] (is_opt entry) old.opt old.signed (nat_eq entry.rtype 250) (list_any is_signature f.entries) new (disjoint entry.rtype) e;
+          opt_is = opt_goes row (filter is_opt f.rows) (is_opt row) old.opt old.signed (old.signed || nat_eq row.rtype 250) new final.opt e f.opt_is;
+          signed_is = f.signed_is ∙ signed_on row [] (is_opt row) old.opt old.signed (nat_eq row.rtype 250) (list_any is_signature f.rows) new (disjoint row.rtype) e;
         };
-        only = λ final f. only_one final f.entries f.count_is f.stand f.opt_is f.signed_is;
+        only = λ final f. only_one final f.rows f.count_is f.stand f.opt_is f.signed_is;
       }
     where
-      only_one : (final : Seen) (entries : List Entry) → length entries ≡ count + 1 → Entries message at entries (length message) → FindsOpt old.opt (filter is_opt entries) final.opt
-          → final.signed ≡ has_signature old.signed entries → Completes message count next new final
+      only_one : (final : Seen) (rows : List Rr) → length rows ≡ count + 1 → AreRrs any_data message at rows (length message) → FindsOpt old.opt (filter is_opt rows) final.opt
+          → final.signed ≡ has_signature old.signed rows → Completes message count next new final
       only_one final [] n stand opt signed = absurd (omega arith)
-      only_one final (first ∷ entries) n stand opt signed =
-          let same : (first, stand.0) ≡ (entry, next) = only (first, stand.0) stand.1 in
-          let same_first : first ≡ entry = ap (λ (p : Entry × ℕ). p.0) same in
+      only_one final (first ∷ rows) n stand opt signed =
+          let same : (first, stand.0) ≡ (row, next) = only (first, stand.0) stand.1 in
+          let same_first : first ≡ row = ap (λ (p : Rr × ℕ). p.0) same in
           record {
-            entries = entries;
+            rows = rows;
             count_is = omega (arith, n);
-            stand = subst (λ k. Entries message k entries (length message)) (ap (λ (p : Entry × ℕ). p.1) same) stand.2;
-            opt_is = opt_only entry (filter is_opt entries) (is_opt entry) old.opt old.signed (old.signed || nat_eq entry.rtype 250) new final.opt e
-                (subst (λ x. FindsOpt old.opt (filter is_opt (x ∷ entries)) final.opt) same_first opt);
-            signed_is = subst (λ x. final.signed ≡ has_signature old.signed (x ∷ entries)) same_first signed
-                ∙ sym (signed_on entry [] (is_opt entry) old.opt old.signed (nat_eq entry.rtype 250) (list_any is_signature entries) new (disjoint entry.rtype) e);
+            stand = subst (λ k. AreRrs any_data message k rows (length message)) (ap (λ (p : Rr × ℕ). p.1) same) stand.2;
+            opt_is = opt_only row (filter is_opt rows) (is_opt row) old.opt old.signed (old.signed || nat_eq row.rtype 250) new final.opt e
+                (subst (λ x. FindsOpt old.opt (filter is_opt (x ∷ rows)) final.opt) same_first opt);
+            signed_is = subst (λ x. final.signed ≡ has_signature old.signed (x ∷ rows)) same_first signed
+                ∙ sym (signed_on row [] (is_opt row) old.opt old.signed (nat_eq row.rtype 250) (list_any is_signature rows) new (disjoint row.rtype) e);
           }
 
-  sees_none : saw old entry.rtype entry.rclass entry.ttl ≡ None → (count : ℕ) (final : Seen) → Completes message (count + 1) at old final → ⊥
-  sees_none e count final f = by_entries f.entries f.count_is f.stand f.opt_is
+  sees_none : saw old row.rtype row.rclass row.ttl ≡ None → (count : ℕ) (final : Seen) → Completes message (count + 1) at old final → ⊥
+  sees_none e count final f = by_rows f.rows f.count_is f.stand f.opt_is
     where
-      by_entries : (entries : List Entry) → length entries ≡ count + 1 → Entries message at entries (length message) → FindsOpt old.opt (filter is_opt entries) final.opt → ⊥
-      by_entries [] n stand opt = omega arith
-      by_entries (first ∷ entries) n stand opt =
-          let same_first : first ≡ entry = ap (λ (p : Entry × ℕ). p.0) (only (first, stand.0) stand.1) in
-          opt_none entry (filter is_opt entries) (is_opt entry) old.opt old.signed (old.signed || nat_eq entry.rtype 250) final.opt e
-          (subst (λ x. FindsOpt old.opt (filter is_opt (x ∷ entries)) final.opt) same_first opt)
+      by_rows : (rows : List Rr) → length rows ≡ count + 1 → AreRrs any_data message at rows (length message) → FindsOpt old.opt (filter is_opt rows) final.opt → ⊥
+      by_rows [] n stand opt = omega arith
+      by_rows (first ∷ rows) n stand opt =
+          let same_first : first ≡ row = ap (λ (p : Rr × ℕ). p.0) (only (first, stand.0) stand.1) in
+          opt_none row (filter is_opt rows) (is_opt row) old.opt old.signed (old.signed || nat_eq row.rtype 250) final.opt e
+          (subst (λ x. FindsOpt old.opt (filter is_opt (x ∷ rows)) final.opt) same_first opt)
 
 -- ---- a record that was passed
 
 module _ (message : List ℕ) (at : ℕ) (head : RecordHead) (next : ℕ) (p : PassesOne message at head next) (old : Seen) where
   pub passed_one : (new : Seen) → saw old head.rtype head.rclass head.ttl ≡ Some new → (count : ℕ) → SeesOne message count at old next new
-  passed_one new e = sees_one message at next p.entry p.is p.only old new (subst (λ (h : RecordHead). saw old h.rtype h.rclass h.ttl ≡ Some new) p.head_is e)
+  passed_one new e = sees_one message at next p.row p.is p.only old new (subst (λ (h : RecordHead). saw old h.rtype h.rclass h.ttl ≡ Some new) p.head_is e)
 
   pub passed_second : saw old head.rtype head.rclass head.ttl ≡ None → (count : ℕ) (final : Seen) → Completes message (count + 1) at old final → ⊥
-  passed_second e = sees_none message at next p.entry p.is p.only old (subst (λ (h : RecordHead). saw old h.rtype h.rclass h.ttl ≡ None) p.head_is e)
+  passed_second e = sees_none message at next p.row p.is p.only old (subst (λ (h : RecordHead). saw old h.rtype h.rclass h.ttl ≡ None) p.head_is e)
 
-pub no_entry : (message : List ℕ) (at : ℕ) (old : Seen) → ((other : Entry × ℕ) → IsEntry message at other.0 other.1 → ⊥) → (count : ℕ) (final : Seen) → Completes message (count + 1) at old final → ⊥
-no_entry message at old none count final f = by_entries f.entries f.count_is f.stand
+pub no_row : (message : List ℕ) (at : ℕ) (old : Seen) → ((other : Rr × ℕ) → IsRr any_data message at other.0 other.1 → ⊥) → (count : ℕ) (final : Seen) → Completes message (count + 1) at old final → ⊥
+no_row message at old none count final f = by_rows f.rows f.count_is f.stand
   where
-    by_entries : (entries : List Entry) → length entries ≡ count + 1 → Entries message at entries (length message) → ⊥
-    by_entries [] n stand = omega arith
-    by_entries (first ∷ entries) n stand = none (first, stand.0) stand.1
+    by_rows : (rows : List Rr) → length rows ≡ count + 1 → AreRrs any_data message at rows (length message) → ⊥
+    by_rows [] n stand = omega arith
+    by_rows (first ∷ rows) n stand = none (first, stand.0) stand.1
 
 -- ---- the end of the records
 
@@ -134,19 +135,19 @@ or_false false = refl
 
 pub at_end : (message : List ℕ) (count at : ℕ) (seen : Seen) → count ≡ 0 → at ≡ length message → Completes message count at seen seen
 at_end message count at seen none end =
-    record { entries = []; count_is = sym none; stand = sym end; opt_is = finds_nothing seen.opt; signed_is = sym (or_false seen.signed) }
+    record { rows = []; count_is = sym none; stand = sym end; opt_is = finds_nothing seen.opt; signed_is = sym (or_false seen.signed) }
 
 pub record AtEnd (message : List ℕ) (at : ℕ) (seen final : Seen) : Type 0 where
   pub place : at ≡ length message
   pub final_is : final ≡ seen
 
 pub only_end : (message : List ℕ) (count at : ℕ) (seen final : Seen) → count ≡ 0 → Completes message count at seen final → AtEnd message at seen final
-only_end message count at seen final none f = by_entries f.entries f.count_is f.stand f.opt_is f.signed_is
+only_end message count at seen final none f = by_rows f.rows f.count_is f.stand f.opt_is f.signed_is
   where
-    by_entries : (entries : List Entry) → length entries ≡ count → Entries message at entries (length message) → FindsOpt seen.opt (filter is_opt entries) final.opt
-        → final.signed ≡ has_signature seen.signed entries → AtEnd message at seen final
-    by_entries [] n stand opt signed =
+    by_rows : (rows : List Rr) → length rows ≡ count → AreRrs any_data message at rows (length message) → FindsOpt seen.opt (filter is_opt rows) final.opt
+        → final.signed ≡ has_signature seen.signed rows → AtEnd message at seen final
+    by_rows [] n stand opt signed =
         let same = only_nothing seen.opt final.opt opt in
         let also = signed ∙ or_false seen.signed in
         record { place = sym stand; final_is = λ i. record { opt = same i; signed = also i } }
-    by_entries (entry ∷ entries) n stand opt signed = absurd (omega arith)
+    by_rows (row ∷ rows) n stand opt signed = absurd (omega arith)

@@ -1,6 +1,9 @@
 -- What stands at a place stands there once.
-use Rattle.std.proofs.Common.{◌≡◌, ℕ, ◌+◌, ◌/◌, ◌%◌, ◌<◌, List, ◌++◌, length, drop, refl, sym, ap, ap₂, ◌∙◌, arith, drop_at, drop-drop, take_at, take}
-use Rattle.dn_message.specs.Fields.{Stands, two_bytes}
+use Rattle.std.proofs.Common.{◌≡◌, ℕ, ◌+◌, ◌/◌, ◌%◌, ◌<◌, List, [], ◌∷◌, ◌++◌, length, drop, refl, sym, ap, ap₂, subst, ◌∙◌, arith, drop_at, drop-drop, take_at, take}
+use Rattle.std.proofs.lemmas.List.{append-nil}
+use Rattle.dn_rdata.specs.Laid.{Laid, Stands}
+use Rattle.dn_rdata.specs.declared.parts.Part.TheVariants.{Rest}
+use Rattle.dn_message.specs.Fields.{two_bytes}
 use Rattle.dn_message.specs.Reading.{IsTypeAndClass}
 
 -- two numbers with equal bytes are equal
@@ -48,3 +51,12 @@ kind_found message at found back e = (
 
 pub no_kind : (message : List ℕ) (at : ℕ) → length (drop at message) < 4 → (other : ℕ × ℕ) → IsTypeAndClass message at other → ⊥
 no_kind message at short other is = omega (arith, ap length is.bytes)
+
+-- any bytes lie where they stand, and only there
+pub any_laid : (message : List ℕ) (at next : ℕ) (rdata : List ℕ) → Stands message at rdata next → Laid message at next (Rest ∷ []) rdata
+any_laid message at next rdata is = (rdata, [], next, (is, refl), sym (append-nil rdata), (refl, refl))
+
+pub any_stands : (message : List ℕ) (at next : ℕ) (rdata : List ℕ) → Laid message at next (Rest ∷ []) rdata → Stands message at rdata next
+any_stands message at next rdata laid =
+    let same : rdata ≡ laid.0 = laid.4 ∙ ap (λ xs. laid.0 ++ xs) laid.5.0 ∙ append-nil laid.0 in
+    subst (λ k. Stands message at rdata k) laid.3.1 (subst (λ xs. Stands message at xs laid.2) (sym same) laid.3.0)

@@ -8,7 +8,7 @@ use Rattle.dn_message.specs.declared.query.Query.{Query}
 use Rattle.dn_message.specs.Header.{IsHeader, is_recursion_desired}
 use Rattle.dn_message.specs.Query.{IsQuery}
 use Rattle.dn_message.specs.Reading.{Completes, IsQueryHeader, IsTypeAndClass}
-use Rattle.dn_message.specs.Record.{Entries}
+use Rattle.dn_message.specs.Record.{AreRrs, any_data}
 
 -- nothing was seen yet
 abbrev pub unseen : Seen
@@ -32,9 +32,9 @@ module _ (message : List ℕ) (header : QueryHeader) (is_header : IsQueryHeader 
 
     seen_of : (query : Query) → IsQuery message query → Completes message header.additional (behind + 4) unseen (record { opt = query.opt; signed = query.signed })
     seen_of query is = record {
-      entries = is.additional;
+      rows = is.additional;
       count_is = ap (λ (h : QueryHeader). h.additional) (header_of query is);
-      stand = subst (λ at. Entries message (at + 4) is.additional (length message)) (place_of query is) is.records;
+      stand = subst (λ at. AreRrs any_data message (at + 4) is.additional (length message)) (place_of query is) is.records;
       opt_is = is.opt_is;
       signed_is = is.signed_is;
     }
@@ -51,7 +51,7 @@ module _ (message : List ℕ) (header : QueryHeader) (is_header : IsQueryHeader 
     query_found rd rd_is kind is_kind only_kind seen completes only_seen = (
       record {
         flags = header.flags;
-        additional = completes.entries;
+        additional = completes.rows;
         header = subst (λ count. IsHeader message header.id header.flags 1 0 0 count) (sym completes.count_is) is_header;
         rd_is = rd_is;
         behind = behind;

@@ -2,11 +2,12 @@
 use Rattle.std.proofs.Common.{◌≡◌, ℕ, ◌+◌, ◌-◌, ◌<◌, ◌≤◌, List, ◌++◌, length, take, drop, refl, sym, ap, ap₂, subst, ◌∙◌, arith, length-append, length-take-le, length-drop, take-append-drop}
 use Rattle.dn_name.specs.Name.{Labels}
 use Rattle.dn_name.specs.Spelled.{Spelled}
+use Rattle.dn_rdata.specs.Laid.{Laid, Stands}
 use Rattle.dn_message.specs.declared.record.RecordHead.{RecordHead}
-use Rattle.dn_message.specs.Fields.{Stands}
 use Rattle.dn_message.specs.Reading.{IsHead, PassesOne, head_of}
-use Rattle.dn_message.specs.Record.{Entry, IsEntry, fields}
-use Rattle.dn_message.proofs.FieldLemmas.{four_once, same_front, stands, two_once}
+use Rattle.dn_message.specs.Record.{Form, IsRr, any_data, fields}
+use Rattle.dn_message.specs.declared.rr.Rr.{Rr}
+use Rattle.dn_message.proofs.FieldLemmas.{any_laid, any_stands, four_once, same_front, stands, two_once}
 
 -- what two runs of fields say where they stand at the front of one list
 pub record SameFields (left right : RecordHead) : Type 0 where
@@ -60,59 +61,73 @@ module _ (message : List ℕ) (at behind : ℕ) (name : Labels) (spelled : Spell
 -- ---- the whole record
 
 -- a record begins with its head
-pub head_in : (message : List ℕ) (at : ℕ) (entry : Entry) (next : ℕ) (is : IsEntry message at entry next) → IsHead message at (head_of entry) (is.behind + 10)
-head_in message at entry next is = record { behind = is.behind; name_spelled = is.name_spelled; fields_stand = is.fields_stand; place_is = refl }
+pub head_in : (form : Form) (message : List ℕ) (at : ℕ) (row : Rr) (next : ℕ) (is : IsRr form message at row next) → IsHead message at (head_of row is.len) (is.behind + 10)
+head_in form message at row next is = record { behind = is.behind; name_spelled = is.name_spelled; fields_stand = is.fields_stand; place_is = refl }
 
-pub no_head : (message : List ℕ) (at : ℕ) → ((other : RecordHead × ℕ) → IsHead message at other.0 other.1 → ⊥) → (other : Entry × ℕ) → IsEntry message at other.0 other.1 → ⊥
-no_head message at none other is = none (head_of other.0, is.behind + 10) (head_in message at other.0 other.1 is)
+pub no_head : (form : Form) (message : List ℕ) (at : ℕ) → ((other : RecordHead × ℕ) → IsHead message at other.0 other.1 → ⊥) → (other : Rr × ℕ) → IsRr form message at other.0 other.1 → ⊥
+no_head form message at none other is = none (head_of other.0 is.len, is.behind + 10) (head_in form message at other.0 other.1 is)
+
+module _ (form : Form) (message : List ℕ) (at : ℕ) (head : RecordHead) (place : ℕ) (is_head : IsHead message at head place)
+    (only : (other : RecordHead × ℕ) → IsHead message at other.0 other.1 → other ≡ (head, place)) where
+  -- any record at the place has this head, and its data lie behind it
+  pub record Begins (row : Rr) (next : ℕ) : Type 0 where
+    pub len : ℕ
+    pub head_is : head_of row len ≡ head
+    pub data_laid : Laid message place next (form row.rtype row.rclass) row.rdata
+    pub next_is : next ≡ place + head.len
+
+  pub begins : (row : Rr) (next : ℕ) → IsRr form message at row next → Begins row next
+  begins row next is =
+      let same : (head_of row is.len, is.behind + 10) ≡ (head, place) = only (head_of row is.len, is.behind + 10) (head_in form message at row next is) in
+      let same_len : is.len ≡ head.len = ap (λ (p : RecordHead × ℕ). p.0.len) same in
+      let there : is.behind + 10 ≡ place = ap (λ (p : RecordHead × ℕ). p.1) same in
+      record {
+        len = is.len;
+        head_is = ap (λ (p : RecordHead × ℕ). p.0) same;
+        data_laid = subst (λ k. Laid message k next (form row.rtype row.rclass) row.rdata) there is.data_laid;
+        next_is = omega (arith, is.next_is, same_len, there);
+      }
+
+-- ---- a record whose data are any bytes
 
 module _ (message : List ℕ) (at : ℕ) (head : RecordHead) (place : ℕ) (is_head : IsHead message at head place)
     (only : (other : RecordHead × ℕ) → IsHead message at other.0 other.1 → other ≡ (head, place)) where
-  -- any record at the place has this head, and its data stand behind it
-  pub record Begins (entry : Entry) (next : ℕ) : Type 0 where
-    pub head_is : head_of entry ≡ head
-    pub data_stand : Stands message place entry.rdata next
-
-  begins : (entry : Entry) (next : ℕ) → IsEntry message at entry next → Begins entry next
-  begins entry next is =
-      let same : (head_of entry, is.behind + 10) ≡ (head, place) = only (head_of entry, is.behind + 10) (head_in message at entry next is) in
-      record {
-        head_is = ap (λ (p : RecordHead × ℕ). p.0) same;
-        data_stand = subst (λ k. Stands message k entry.rdata next) (ap (λ (p : RecordHead × ℕ). p.1) same) is.data_stand;
-      }
-
   abbrev data_of : List ℕ
   data_of = take head.len (drop place message)
 
-  abbrev entry_of : Entry
-  entry_of = record { name = head.name; rtype = head.rtype; rclass = head.rclass; ttl = head.ttl; rdata = data_of }
+  abbrev row_of : Rr
+  row_of = record { name = head.name; rtype = head.rtype; rclass = head.rclass; ttl = head.ttl; rdata = data_of }
 
   pub passes_one : (next : ℕ) → place ≤ length message → head.len ≤ length message - place → next ≡ place + head.len → PassesOne message at head next
   passes_one next within room next_is =
       let len_is : length data_of ≡ head.len = length-take-le head.len (drop place message) (omega (arith, length-drop place message)) in
+      let standing : Stands message place data_of next =
+          stands message place next data_of (drop head.len (drop place message)) (sym (take-append-drop head.len (drop place message))) (omega (arith, len_is, next_is)) in
       record {
-        entry = entry_of;
+        row = row_of;
         is = record {
           behind = is_head.behind;
+          len = head.len;
           name_spelled = is_head.name_spelled;
-          fields_stand = subst (λ n. Stands message is_head.behind (fields head.rtype head.rclass head.ttl n) (is_head.behind + 10)) (sym len_is) is_head.fields_stand;
-          data_stand = subst (λ k. Stands message k data_of next) is_head.place_is
-              (stands message place next data_of (drop head.len (drop place message)) (sym (take-append-drop head.len (drop place message))) (omega (arith, len_is, next_is)));
+          fields_stand = is_head.fields_stand;
+          data_laid = subst (λ k. Laid message k next (any_data head.rtype head.rclass) data_of) is_head.place_is (any_laid message place next data_of standing);
+          next_is = omega (arith, next_is, is_head.place_is);
         };
-        head_is = λ i. record { name = head.name; rtype = head.rtype; rclass = head.rclass; ttl = head.ttl; len = sym len_is i };
+        head_is = refl;
         only = λ other is.
-            let begun = begins other.0 other.1 is in
-            let same_len : length other.0.rdata ≡ head.len = ap (λ (h : RecordHead). h.len) begun.head_is in
+            let begun = begins any_data message at head place is_head only other.0 other.1 is in
+            let lying = any_stands message place other.1 other.0.rdata begun.data_laid in
+            let same_len : length other.0.rdata ≡ head.len = omega (arith, lying.next_is, begun.next_is) in
             let same_data : other.0.rdata ≡ data_of = same_front other.0.rdata data_of (drop other.1 message) (drop head.len (drop place message)) (same_len ∙ sym len_is)
-            (sym begun.data_stand.bytes ∙ sym (take-append-drop head.len (drop place message))) in
-            ap₂ (λ (x : Entry) (y : ℕ). (x, y)) (same_entry other.0 begun.head_is same_data) (omega (arith, begun.data_stand.next_is, same_len, next_is));
+            (sym lying.bytes ∙ sym (take-append-drop head.len (drop place message))) in
+            ap₂ (λ (x : Rr) (y : ℕ). (x, y)) (same_row other.0 begun.len begun.head_is same_data) (omega (arith, begun.next_is, next_is));
       }
     where
-      same_entry : (other : Entry) → head_of other ≡ head → other.rdata ≡ data_of → other ≡ entry_of
-      same_entry other h d i = record { name = (h i).name; rtype = (h i).rtype; rclass = (h i).rclass; ttl = (h i).ttl; rdata = d i }
+      same_row : (other : Rr) (len : ℕ) → head_of other len ≡ head → other.rdata ≡ data_of → other ≡ row_of
+      same_row other len h d i = record { name = (h i).name; rtype = (h i).rtype; rclass = (h i).rclass; ttl = (h i).ttl; rdata = d i }
 
-  pub cut_data : place ≤ length message → length message - place < head.len → (other : Entry × ℕ) → IsEntry message at other.0 other.1 → ⊥
+  pub cut_data : place ≤ length message → length message - place < head.len → (other : Rr × ℕ) → IsRr any_data message at other.0 other.1 → ⊥
   cut_data within short other is =
-      let begun = begins other.0 other.1 is in
-      let same_len : length other.0.rdata ≡ head.len = ap (λ (h : RecordHead). h.len) begun.head_is in
-      omega (arith, same_len, ap length begun.data_stand.bytes, length-append other.0.rdata (drop other.1 message), length-drop place message)
+      let begun = begins any_data message at head place is_head only other.0 other.1 is in
+      let lying = any_stands message place other.1 other.0.rdata begun.data_laid in
+      omega (arith, lying.next_is, begun.next_is, ap length lying.bytes, length-append other.0.rdata (drop other.1 message), length-drop place message)

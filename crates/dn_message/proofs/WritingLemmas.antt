@@ -9,9 +9,9 @@ use Rattle.dn_message.specs.declared.query.Query.{Query}
 use Rattle.dn_message.specs.Fields.{four_bytes, two_bytes}
 use Rattle.dn_message.specs.Header.{IsHeader, is_recursion_desired}
 use Rattle.dn_message.specs.Query.{HasOpt, IsQuery, is_opt, is_signature, opt_of}
-use Rattle.dn_message.specs.Record.{Entries, IsEntry, fields}
-use Rattle.dn_message.specs.Writing.{Appends, additional_bytes, additional_of, header_bytes, kind_bytes, opt_bytes, opt_entry, query_bytes}
-use Rattle.dn_message.proofs.FieldLemmas.{stands}
+use Rattle.dn_message.specs.Record.{AreRrs, IsRr, any_data, fields}
+use Rattle.dn_message.specs.Writing.{Appends, additional_bytes, additional_of, header_bytes, kind_bytes, opt_bytes, opt_row, query_bytes}
+use Rattle.dn_message.proofs.FieldLemmas.{any_laid, stands}
 
 -- one piece behind another
 pub appends_then : (at mid next : ℕ) (old between new piece more : List ℕ) → Appends at old piece mid between → Appends mid between more next new → Appends at old (piece ++ more) next new
@@ -46,7 +46,7 @@ version_bytes version small =
     let d : 65536 * version % 65536 % 256 ≡ 0 = omega arith in
     λ i. a i ∷ (b i ∷ (c i ∷ (d i ∷ [])))
 
-version_is : (opt : Opt) → opt.version < 256 → opt ≡ opt_of (opt_entry opt)
+version_is : (opt : Opt) → opt.version < 256 → opt ≡ opt_of (opt_row opt)
 version_is opt small =
     let same : opt.version ≡ 65536 * opt.version / 65536 % 256 = omega arith in
     λ i. record { size = opt.size; version = same i }
@@ -115,7 +115,7 @@ module _ (id : ℕ) (name : Labels) (qtype qclass : ℕ) (is_name : IsName name)
         wire_size name,
       )
 
-  opt_stands : (rd : Bool) (opt : Opt) → opt.version < 256 → IsEntry (message_of rd (Some opt)) (behind + 4) (opt_entry opt) (length (message_of rd (Some opt)))
+  opt_stands : (rd : Bool) (opt : Opt) → opt.version < 256 → IsRr any_data (message_of rd (Some opt)) (behind + 4) (opt_row opt) (length (message_of rd (Some opt)))
   opt_stands rd opt small =
       let message = message_of rd (Some opt) in
       let size = size_is rd (Some opt) in
@@ -126,16 +126,18 @@ module _ (id : ℕ) (name : Labels) (qtype qclass : ℕ) (is_name : IsName name)
         fields_stand = stands message (behind + 4 + 1) (behind + 4 + 1 + 10) (fields 41 opt.size (65536 * opt.version) 0) []
             (sym (drop-drop 1 (behind + 4) message) ∙ ap (drop 1) (behind_kind rd (Some opt))
             ∙ ap (λ xs. (two_bytes 41 ++ (two_bytes opt.size ++ (xs ++ two_bytes 0))) ++ []) (sym (version_bytes opt.version small))) refl;
-        data_stand = record { bytes = ap (λ k. drop k message) ends; next_is = omega (arith, ends) };
+        len = 0;
+        data_laid = any_laid message (behind + 4 + 1 + 10) (length message) [] (record { bytes = ap (λ k. drop k message) ends; next_is = omega (arith, ends) });
+        next_is = omega (arith, ends);
       }
 
-  records_stand : (rd : Bool) (opt : Option Opt) → IfSome opt (λ opt. opt.version < 256) → Entries (message_of rd opt) (behind + 4) (additional_of opt) (length (message_of rd opt))
+  records_stand : (rd : Bool) (opt : Option Opt) → IfSome opt (λ opt. opt.version < 256) → AreRrs any_data (message_of rd opt) (behind + 4) (additional_of opt) (length (message_of rd opt))
   records_stand rd None small = omega (arith, size_is rd None)
   records_stand rd (Some opt) small = (length (message_of rd (Some opt)), opt_stands rd opt small, refl)
 
   opt_found : (opt : Option Opt) → IfSome opt (λ opt. opt.version < 256) → HasOpt (filter is_opt (additional_of opt)) opt
   opt_found None small = refl
-  opt_found (Some opt) small = (opt_entry opt, refl, version_is opt small)
+  opt_found (Some opt) small = (opt_row opt, refl, version_is opt small)
 
   unsigned : (opt : Option Opt) → false ≡ list_any is_signature (additional_of opt)
   unsigned None = refl

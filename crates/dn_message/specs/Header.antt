@@ -1,16 +1,48 @@
 -- The header of a message (RFC 1035 4.1.1): six numbers of two bytes.
 use Rattle.std.specs.Prelude.{ℕ, ◌/◌, ◌%◌, Bool, nat_eq, List}
-use Rattle.dn_message.specs.Fields.{Stands, two_bytes}
+use Rattle.dn_rdata.specs.Laid.{Stands}
+use Rattle.dn_message.specs.declared.rcode.Rcode.{Rcode}
+use Rattle.dn_message.specs.declared.rcode.Rcode.TheVariants.{NoError, FormErr, ServFail, NxDomain, NotImp, Refused, YxDomain, YxRrset, NxRrset, NotAuth, NotZone}
+use Rattle.dn_message.specs.Fields.{two_bytes}
 
--- the bits of the flags: QR, the four of the opcode, RD
+-- the bits of the flags: QR, the four of the opcode, AA, TC, RD, RA, three that stand for nothing here, the four of the code
 abbrev pub is_reply : ℕ → Bool
 is_reply flags = nat_eq (flags / 32768 % 2) 1
 
 abbrev pub opcode : ℕ → ℕ
 opcode flags = flags / 2048 % 16
 
+abbrev pub is_authoritative : ℕ → Bool
+is_authoritative flags = nat_eq (flags / 1024 % 2) 1
+
+abbrev pub is_truncated : ℕ → Bool
+is_truncated flags = nat_eq (flags / 512 % 2) 1
+
 abbrev pub is_recursion_desired : ℕ → Bool
 is_recursion_desired flags = nat_eq (flags / 256 % 2) 1
+
+abbrev pub is_recursion_available : ℕ → Bool
+is_recursion_available flags = nat_eq (flags / 128 % 2) 1
+
+abbrev pub zero_bits : ℕ → ℕ
+zero_bits flags = flags / 16 % 8
+
+abbrev pub rcode_in : ℕ → ℕ
+rcode_in flags = flags % 16
+
+-- the number of a code (RFC 1035 4.1.1, RFC 2136 2.2)
+abbrev pub number_of_rcode : Rcode → ℕ
+number_of_rcode NoError = 0
+number_of_rcode FormErr = 1
+number_of_rcode ServFail = 2
+number_of_rcode NxDomain = 3
+number_of_rcode NotImp = 4
+number_of_rcode Refused = 5
+number_of_rcode YxDomain = 6
+number_of_rcode YxRrset = 7
+number_of_rcode NxRrset = 8
+number_of_rcode NotAuth = 9
+number_of_rcode NotZone = 10
 
 -- the message's number, its flags, and how many entries each section has
 pub record IsHeader (message : List ℕ) (number flags questions answers authorities additional : ℕ) : Type 0 where

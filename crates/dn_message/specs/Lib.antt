@@ -4,4 +4,5 @@ pub mod Kind
 pub mod Query
 pub mod Reading
 pub mod Record
+pub mod Reply
 pub mod Writing

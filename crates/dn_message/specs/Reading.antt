@@ -2,15 +2,17 @@
 use Rattle.std.specs.Prelude.{◌≡◌, ℕ, ◌+◌, ◌/◌, ◌%◌, Bool, ◌||◌, nat_eq, if◌then◌else◌, List, [], ◌++◌, length, Option, None, Some, Result, Ok, Err}
 use Rattle.std.specs.List.{filter, list_any}
 use Rattle.dn_name.specs.Spelled.{Spelled}
+use Rattle.dn_rdata.specs.Laid.{Stands}
 use Rattle.dn_message.specs.declared.additional.Seen.{Seen}
 use Rattle.dn_message.specs.declared.error.FormError.{FormError}
 use Rattle.dn_message.specs.declared.header.QueryHeader.{QueryHeader}
 use Rattle.dn_message.specs.declared.query.Opt.{Opt}
 use Rattle.dn_message.specs.declared.record.RecordHead.{RecordHead}
-use Rattle.dn_message.specs.Fields.{Stands, two_bytes}
+use Rattle.dn_message.specs.declared.rr.Rr.{Rr}
+use Rattle.dn_message.specs.Fields.{two_bytes}
 use Rattle.dn_message.specs.Header.{IsHeader}
 use Rattle.dn_message.specs.Query.{HasOpt, is_opt, is_signature}
-use Rattle.dn_message.specs.Record.{Entries, Entry, IsEntry, fields}
+use Rattle.dn_message.specs.Record.{AreRrs, IsRr, any_data, fields}
 
 -- ---- the header and the question
 
@@ -33,37 +35,37 @@ pub record IsHead (message : List ℕ) (at : ℕ) (head : RecordHead) (place : �
   pub fields_stand : Stands message behind (fields head.rtype head.rclass head.ttl head.len) (behind + 10)
   pub place_is : place ≡ behind + 10
 
-abbrev pub head_of : Entry → RecordHead
-head_of entry = record { name = entry.name; rtype = entry.rtype; rclass = entry.rclass; ttl = entry.ttl; len = length entry.rdata }
+abbrev pub head_of : Rr → ℕ → RecordHead
+head_of row len = record { name = row.name; rtype = row.rtype; rclass = row.rclass; ttl = row.ttl; len = len }
 
--- one record stands at the place, with this head, or none does
+-- one record whose data are any bytes stands at the place, with this head, or none does
 pub record PassesOne (message : List ℕ) (at : ℕ) (head : RecordHead) (next : ℕ) : Type 0 where
-  pub entry : Entry
-  pub is : IsEntry message at entry next
-  pub head_is : head ≡ head_of entry
-  pub only : (other : Entry × ℕ) → IsEntry message at other.0 other.1 → other ≡ (entry, next)
+  pub row : Rr
+  pub is : IsRr any_data message at row next
+  pub head_is : head ≡ head_of row is.len
+  pub only : (other : Rr × ℕ) → IsRr any_data message at other.0 other.1 → other ≡ (row, next)
 
 abbrev pub Passes : List ℕ → ℕ → Result (RecordHead × ℕ) FormError → Type 0
 Passes message at (Ok found) = PassesOne message at found.0 found.1
-Passes message at (Err error) = (other : Entry × ℕ) → IsEntry message at other.0 other.1 → ⊥
+Passes message at (Err error) = (other : Rr × ℕ) → IsRr any_data message at other.0 other.1 → ⊥
 
 -- ---- the additional records
 
-abbrev pub has_signature : Bool → List Entry → Bool
-has_signature seen entries = seen || list_any is_signature entries
+abbrev pub has_signature : Bool → List Rr → Bool
+has_signature seen rows = seen || list_any is_signature rows
 
 -- an OPT record was seen and none follows, or none was seen
-abbrev pub FindsOpt : Option Opt → List Entry → Option Opt → Type 0
+abbrev pub FindsOpt : Option Opt → List Rr → Option Opt → Type 0
 FindsOpt None opts found = HasOpt opts found
 FindsOpt (Some opt) opts found = (opts ≡ []) × (found ≡ Some opt)
 
 -- so many records from a place on are the last of the message, and complete what was seen of those before them
 pub record Completes (message : List ℕ) (count at : ℕ) (seen final : Seen) : Type 0 where
-  pub entries : List Entry
-  pub count_is : length entries ≡ count
-  pub stand : Entries message at entries (length message)
-  pub opt_is : FindsOpt seen.opt (filter is_opt entries) final.opt
-  pub signed_is : final.signed ≡ has_signature seen.signed entries
+  pub rows : List Rr
+  pub count_is : length rows ≡ count
+  pub stand : AreRrs any_data message at rows (length message)
+  pub opt_is : FindsOpt seen.opt (filter is_opt rows) final.opt
+  pub signed_is : final.signed ≡ has_signature seen.signed rows
 
 -- what was seen, with one record more; none at a second OPT record
 abbrev pub first_opt : Option Opt → Seen → Option Seen

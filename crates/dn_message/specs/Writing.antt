@@ -3,19 +3,19 @@ use Rattle.std.specs.Prelude.{◌≡◌, ℕ, ◌+◌, ◌*◌, ◌≤◌, Bool,
 use Rattle.dn_name.specs.Name.{wire_of}
 use Rattle.dn_message.specs.declared.query.Opt.{Opt}
 use Rattle.dn_message.specs.declared.query.Query.{Query}
+use Rattle.dn_message.specs.declared.rr.Rr.{Rr}
 use Rattle.dn_message.specs.Fields.{two_bytes}
-use Rattle.dn_message.specs.Record.{Entry}
 
 -- the OPT record: the root's name, no data, the version in the second byte of the time to live
-abbrev pub opt_entry : Opt → Entry
-opt_entry opt = record { name = []; rtype = 41; rclass = opt.size; ttl = 65536 * opt.version; rdata = [] }
+abbrev pub opt_row : Opt → Rr
+opt_row opt = record { name = []; rtype = 41; rclass = opt.size; ttl = 65536 * opt.version; rdata = [] }
 
 abbrev pub opt_bytes : Opt → List ℕ
 opt_bytes opt = 0 ∷ (0 ∷ (41 ∷ (two_bytes opt.size ++ (0 ∷ (opt.version ∷ (0 ∷ (0 ∷ (0 ∷ (0 ∷ [])))))))))
 
-abbrev pub additional_of : Option Opt → List Entry
+abbrev pub additional_of : Option Opt → List Rr
 additional_of None = []
-additional_of (Some opt) = opt_entry opt ∷ []
+additional_of (Some opt) = opt_row opt ∷ []
 
 abbrev pub additional_bytes : Option Opt → List ℕ
 additional_bytes None = []

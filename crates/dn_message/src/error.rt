@@ -5,12 +5,16 @@ use dn_name::{NameError, NameFault};
 pub enum FormFault {
     /// The message ends inside a field.
     Short,
+    /// A reply is wanted, and the message isn't one.
+    NotReply,
     /// A name can't be read.
     Name(NameFault),
     /// There isn't exactly one question.
     QuestionCount,
     /// A section has records in which there may be none.
     SectionCount,
+    /// A record's data aren't of its type's form on the wire.
+    BadRdata,
     /// A record is a second OPT record (RFC 6891 6.1.1).
     TwoOpts,
     /// Bytes follow the last field.

@@ -1,5 +1,5 @@
-//! DNS messages (RFC 1035 4.1): which kind of message bytes are, and queries read from bytes and written. No call takes
-//! memory.
+//! DNS messages (RFC 1035 4.1): which kind of message bytes are, queries read from bytes and written, and what replies
+//! are. No call takes memory.
 #![tactic(auto)]
 
 mod additional;
@@ -9,11 +9,17 @@ mod kind;
 mod number;
 mod query;
 mod question;
+mod rcode;
 mod record;
+mod reply;
+mod rr;
 mod threads;
 mod writing;
 
 pub use error::{FormError, FormFault};
 pub use kind::{Kind, kind_of};
 pub use query::{Opt, Query, read_query};
+pub use rcode::Rcode;
+pub use reply::{Question, Reply};
+pub use rr::Rr;
 pub use writing::write_query;

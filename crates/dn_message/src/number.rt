@@ -2,7 +2,8 @@
 
 ghost use Rattle.std.specs.Prelude.{◌≡◌, ℕ, ◌+◌, ◌<◌, ◌≤◌, List, ◌++◌, length, IfSome, IfNone, OnErr, OnOk};
 ghost use Rattle.dn_name.specs.Exact.{Exact};
-ghost use Rattle.dn_message.specs.Fields.{Stands, four_bytes, two_bytes};
+ghost use Rattle.dn_rdata.specs.Laid.{Stands};
+ghost use Rattle.dn_message.specs.Fields.{four_bytes, two_bytes};
 
 use crate::error::{FormError, FormFault, cut};
 

@@ -1,6 +1,6 @@
 //! What the readers give is Send and Sync: these calls can be made for such types alone.
 
-use crate::{FormError, FormFault, Kind, Opt, Query};
+use crate::{FormError, FormFault, Kind, Opt, Query, Question, Rcode, Reply, Rr};
 
 fn crosses<T: Send + Sync>() {}
 
@@ -10,4 +10,8 @@ fn types_cross() {
     crosses::<Kind>();
     crosses::<Opt>();
     crosses::<Query>();
+    crosses::<Question>();
+    crosses::<Rcode>();
+    crosses::<Reply>();
+    crosses::<Rr>();
 }

@@ -1,4 +1,5 @@
 use Rattle.std.proofs.Common.{arith}
+use Rattle.dn_message.specs.Record.{any_data}
 use Rattle.dn_message.proofs.RecordLemmas.{cut_data, no_head, passes_one}
 use Rattle.dn_message.proofs.record.pass_record.Goals as goal
 
@@ -13,4 +14,4 @@ returns-else-len-bytes-clause-passes c =
     passes_one c.args.bytes.now c.args.at c.in-Ok.head c.in-Ok.place read.0 read.1 _ c.in-Ok.ensures.within (omega arith) (omega arith)
 
 pub returns-in-Err-clause-passes : goal.returns-in-Err-clause-passes
-returns-in-Err-clause-passes c = no_head c.args.bytes.now c.args.at c.in-Err.ensures.exact
+returns-in-Err-clause-passes c = no_head any_data c.args.bytes.now c.args.at c.in-Err.ensures.exact
