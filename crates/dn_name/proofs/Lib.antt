@@ -1,4 +1,5 @@
 pub mod CallerLemmas
+pub mod DecisionLemmas
 pub mod FirstFaultLemmas
 pub mod LabelTurnLemmas
 pub mod LabelWalkLemmas
@@ -8,6 +9,7 @@ pub mod PointerTurnLemmas
 pub mod PushedLabelLemmas
 pub mod ReadAgainLemmas
 pub mod ReadBack
+pub mod SpelledDecision
 pub mod SpelledLemmas
 pub mod TextReadingLemmas
 pub mod TextWritingLemmas

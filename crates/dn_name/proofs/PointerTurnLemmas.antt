@@ -16,14 +16,14 @@ module _ (message : List ℕ) where
   -- ---- what is spelled, by its first byte
 
   -- a spelling whose first byte is the length of a label
-  record Labelled (start at : ℕ) (rest label : List ℕ) (labels : Labels) (next : ℕ) : Type 0 where
+  pub record Labelled (start at : ℕ) (rest label : List ℕ) (labels : Labels) (next : ℕ) : Type 0 where
     pub back : List ℕ
     pub rest_is : rest ≡ label ++ back
     pub more : Labels
     pub labels_is : labels ≡ label ∷ more
     pub segment : Segment message start (at + 1 + length label) more next
 
-  by_label : {start at next len : ℕ} {labels : Labels} {rest : List ℕ} → 1 ≤ len → len ≤ 63 → drop at message ≡ len ∷ rest → Segment message start at labels next
+  pub by_label : {start at next len : ℕ} {labels : Labels} {rest : List ℕ} → 1 ≤ len → len ≤ 63 → drop at message ≡ len ∷ rest → Segment message start at labels next
       → (label : List ℕ) × (length label ≡ len) × Labelled start at rest label labels next
   by_label some few e (Ends rest' is) = absurd (omega (arith, (heads message refl e is).0))
   by_label some few e (Goes label rest' sized is more) =
@@ -31,7 +31,7 @@ module _ (message : List ℕ) where
   by_label some few e (Leads high low rest' marked is below more) = absurd (omega (arith, (heads message refl e is).0))
 
   -- a spelling whose first byte is that of a pointer
-  record Led (start at high : ℕ) (rest : List ℕ) (labels : Labels) (next : ℕ) : Type 0 where
+  pub record Led (start at high : ℕ) (rest : List ℕ) (labels : Labels) (next : ℕ) : Type 0 where
     pub low : ℕ
     pub back : List ℕ
     pub elsewhere : ℕ
@@ -40,7 +40,7 @@ module _ (message : List ℕ) where
     pub segment : Segment message (target high low) (target high low) labels elsewhere
     pub next_is : next ≡ at + 2
 
-  by_pointer : {start at next high : ℕ} {labels : Labels} {rest : List ℕ} → 192 ≤ high → drop at message ≡ high ∷ rest → Segment message start at labels next
+  pub by_pointer : {start at next high : ℕ} {labels : Labels} {rest : List ℕ} → 192 ≤ high → drop at message ≡ high ∷ rest → Segment message start at labels next
       → Led start at high rest labels next
   by_pointer marked e (Ends rest' is) = absurd (omega (arith, (heads message refl e is).0))
   by_pointer marked e (Goes label rest' sized is more) = absurd (omega (arith, sized.1, (heads message refl e is).0))
@@ -49,12 +49,12 @@ module _ (message : List ℕ) where
       subst (λ first. Led start at first rest labels (at + 2)) (sym both.0)
       (record { low = low; back = rest'; elsewhere = elsewhere; rest_is = both.1; below = below; segment = more; next_is = refl })
 
-  by_other : {start at next byte : ℕ} {labels : Labels} {rest : List ℕ} → 64 ≤ byte → byte < 192 → drop at message ≡ byte ∷ rest → Segment message start at labels next → ⊥
+  pub by_other : {start at next byte : ℕ} {labels : Labels} {rest : List ℕ} → 64 ≤ byte → byte < 192 → drop at message ≡ byte ∷ rest → Segment message start at labels next → ⊥
   by_other least most e (Ends rest' is) = omega (arith, (heads message refl e is).0)
   by_other least most e (Goes label rest' sized is more) = omega (arith, sized.1, (heads message refl e is).0)
   by_other least most e (Leads high low rest' marked is below more) = omega (arith, (heads message refl e is).0)
 
-  by_nothing : {start at next : ℕ} {labels : Labels} → length (drop at message) ≡ 0 → Segment message start at labels next → ⊥
+  pub by_nothing : {start at next : ℕ} {labels : Labels} → length (drop at message) ≡ 0 → Segment message start at labels next → ⊥
   by_nothing e (Ends rest' is) = omega (arith, ap length is)
   by_nothing e (Goes label rest' sized is more) = omega (arith, ap length is)
   by_nothing e (Leads high low rest' marked is below more) = omega (arith, ap length is)
