@@ -1,10 +1,9 @@
 -- What stands at a place stands there once.
-use Rattle.std.proofs.Common.{◌≡◌, ℕ, ◌+◌, ◌/◌, ◌%◌, ◌<◌, List, [], ◌∷◌, ◌++◌, length, drop, refl, sym, ap, ap₂, subst, ◌∙◌, arith, drop_at, drop-drop, take_at, take}
-use Rattle.std.proofs.lemmas.List.{append-nil}
-use Rattle.dn_rdata.specs.Laid.{Laid, Stands}
-use Rattle.dn_rdata.specs.declared.parts.Part.TheVariants.{Rest}
+use Rattle.std.proofs.Common.{◌≡◌, ℕ, ◌+◌, ◌/◌, ◌%◌, ◌<◌, List, ◌++◌, length, drop, refl, sym, ap, ap₂, ◌∙◌, arith, take_at, take}
+use Rattle.dn_rdata.specs.Laid.{Stands}
 use Rattle.dn_message.specs.Fields.{two_bytes}
 use Rattle.dn_message.specs.Reading.{IsTypeAndClass}
+pub use Rattle.dn_message.specs.Decisions.Standing.{any_laid, any_stands, stands}
 
 -- two numbers with equal bytes are equal
 pub two_once : (left right : ℕ) → left / 256 ≡ right / 256 → left % 256 ≡ right % 256 → left ≡ right
@@ -17,12 +16,6 @@ four_once left right a b c d = omega arith
 -- two fronts of one list with one length are equal
 pub same_front : (left right more rest : List ℕ) → length left ≡ length right → left ++ more ≡ right ++ rest → left ≡ right
 same_front left right more rest count same = sym (take_at left more (length left) refl) ∙ ap (take (length left)) same ∙ take_at right rest (length left) (sym count)
-
--- what stands behind a piece is what stands at its end
-pub stands : (message : List ℕ) (at next : ℕ) (piece back : List ℕ) → drop at message ≡ piece ++ back → next ≡ at + length piece → Stands message at piece next
-stands message at next piece back e n =
-    let behind : drop next message ≡ back = ap (λ k. drop k message) n ∙ sym (drop-drop (length piece) at message) ∙ ap (drop (length piece)) e ∙ drop_at piece back (length piece) refl in
-    record { bytes = e ∙ ap (λ xs. piece ++ xs) (sym behind); next_is = n }
 
 -- ---- one number
 
@@ -51,12 +44,3 @@ kind_found message at found back e = (
 
 pub no_kind : (message : List ℕ) (at : ℕ) → length (drop at message) < 4 → (other : ℕ × ℕ) → IsTypeAndClass message at other → ⊥
 no_kind message at short other is = omega (arith, ap length is.bytes)
-
--- any bytes lie where they stand, and only there
-pub any_laid : (message : List ℕ) (at next : ℕ) (rdata : List ℕ) → Stands message at rdata next → Laid message at next (Rest ∷ []) rdata
-any_laid message at next rdata is = (rdata, [], next, (is, refl), sym (append-nil rdata), (refl, refl))
-
-pub any_stands : (message : List ℕ) (at next : ℕ) (rdata : List ℕ) → Laid message at next (Rest ∷ []) rdata → Stands message at rdata next
-any_stands message at next rdata laid =
-    let same : rdata ≡ laid.0 = laid.4 ∙ ap (λ xs. laid.0 ++ xs) laid.5.0 ∙ append-nil laid.0 in
-    subst (λ k. Stands message at rdata k) laid.3.1 (subst (λ xs. Stands message at xs laid.2) (sym same) laid.3.0)

@@ -1,7 +1,9 @@
+pub mod Decisions
 pub mod Fields
 pub mod Header
 pub mod Kind
 pub mod Query
+pub mod QueryOf
 pub mod Reading
 pub mod Record
 pub mod Reply

@@ -3,6 +3,7 @@
 #![tactic(auto)]
 
 mod additional;
+mod decided;
 mod error;
 mod header;
 mod kind;
@@ -16,6 +17,7 @@ mod rr;
 mod threads;
 mod writing;
 
+pub use decided::the_query_is_one;
 pub use error::{FormError, FormFault};
 pub use kind::{Kind, kind_of};
 pub use query::{Opt, Query, read_query};

@@ -1,0 +1,2 @@
+-- What crates above may cite of these proofs.
+pub use Rattle.dn_message.proofs.QueryOfLemmas.{is_no_query, is_query, no_query, query_is}
