@@ -1,7 +1,10 @@
 //! Queries (RFC 1035 4.1, RFC 6891 6.1).
 
+ghost use Rattle.std.specs.Prelude.{◌≡◌};
+ghost use Rattle.std.specs.Result.{result_ok};
 ghost use Rattle.dn_name.specs.Exact.{Exact};
 ghost use Rattle.dn_message.specs.Query.{IsQuery};
+ghost use Rattle.dn_message.specs.QueryOf.{query_of};
 
 use crate::additional::read_additional;
 use crate::error::FormError;
@@ -42,7 +45,8 @@ pub struct Query {
 /// SectionCount at 6 or 8 where there are records of answer or authority; TwoOpts at the first byte of a second OPT
 /// record; Trailing at the first byte behind the last record.
 pub fn read_query(bytes: &[u8]) -> Result<Query, FormError>
-    ensures { Exact (IsQuery bytes.now) result }
+    ensures exact { Exact (IsQuery bytes.now) result }
+    ensures value { result_ok result ≡ query_of bytes.now }
 {
     let header = read_query_header(bytes)?;
     let (name, behind) = read_name(bytes, 12)?;
