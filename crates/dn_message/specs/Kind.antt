@@ -4,6 +4,10 @@ use Rattle.dn_message.specs.declared.kind.Kind.{Kind}
 use Rattle.dn_message.specs.declared.kind.Kind.TheVariants as kinds
 use Rattle.dn_message.specs.Header.{is_reply, opcode}
 
+-- the message's number, in its first two bytes
+abbrev pub id_in : List ℕ → ℕ
+id_in message = 256 * get_or message 0 0 + get_or message 1 0
+
 -- the number of two bytes behind the first two
 abbrev pub flags_in : List ℕ → ℕ
 flags_in message = 256 * get_or message 2 0 + get_or message 3 0

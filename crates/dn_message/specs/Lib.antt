@@ -2,9 +2,12 @@ pub mod Decisions
 pub mod Fields
 pub mod Header
 pub mod Kind
+pub mod Pieces
 pub mod Query
 pub mod QueryOf
 pub mod Reading
 pub mod Record
 pub mod Reply
+pub mod Short
+pub mod Writer
 pub mod Writing

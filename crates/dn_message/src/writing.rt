@@ -66,7 +66,7 @@ fn bytes_of_header(id: u16, rd: bool, opt: Option<Opt>) -> [u8; 12]
 }
 
 // The type and the class of the question.
-fn bytes_of_kind(qtype: u16, qclass: u16) -> [u8; 4]
+pub(crate) fn bytes_of_kind(qtype: u16, qclass: u16) -> [u8; 4]
     ensures { result ≡ kind_bytes qtype qclass }
 {
     [
@@ -87,7 +87,7 @@ fn bytes_of_opt(opt: Opt) -> [u8; 11]
 }
 
 // Writes a name where there is room for it, and answers the place behind it.
-fn put_name(out: &mut [u8], at: usize, name: &Name) -> usize
+pub(crate) fn put_name(out: &mut [u8], at: usize, name: &Name) -> usize
     requires { at + wire_len name.now ≤ length out.old }
     ensures appends { Appends at out.old (wire_of name.now) result out.new }
     ensures len { length out.new ≡ length out.old }
@@ -99,7 +99,7 @@ fn put_name(out: &mut [u8], at: usize, name: &Name) -> usize
 }
 
 // Writes bytes where there is room for them, and answers the place behind them.
-fn put(out: &mut [u8], at: usize, piece: &[u8]) -> usize
+pub(crate) fn put(out: &mut [u8], at: usize, piece: &[u8]) -> usize
     requires { at + length piece.now ≤ length out.old }
     ensures appends { Appends at out.old piece.now result out.new }
     ensures len { length out.new ≡ length out.old }

@@ -26,4 +26,6 @@ mod values;
 #[cfg(test)]
 mod worlds;
 #[cfg(test)]
+mod writers;
+#[cfg(test)]
 mod zones;
