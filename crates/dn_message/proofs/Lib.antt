@@ -1,7 +1,10 @@
 pub mod AdditionalLemmas
 pub mod CallerLemmas
 pub mod FieldLemmas
+pub mod PieceLemmas
 pub mod QueryLemmas
 pub mod QueryOfLemmas
 pub mod RecordLemmas
+pub mod ReplyLemmas
+pub mod WriterLemmas
 pub mod WritingLemmas

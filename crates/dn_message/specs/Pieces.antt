@@ -51,15 +51,15 @@ counts_of reply = record {
 
 -- ---- their bytes
 
-abbrev pub question_bytes : Question → List ℕ
+unfoldable pub question_bytes : Question → List ℕ
 question_bytes question = wire_of question.name ++ (two_bytes question.qtype ++ two_bytes question.qclass)
 
 -- names without pointers
-abbrev pub row_bytes : Rr → List ℕ
+unfoldable pub row_bytes : Rr → List ℕ
 row_bytes row = wire_of row.name ++ (fields row.rtype row.rclass row.ttl (length row.rdata) ++ row.rdata)
 
 -- what stands behind the header
-abbrev pub body_of : Reply → List ℕ
+unfoldable pub body_of : Reply → List ℕ
 body_of reply =
     flat_map question_bytes reply.questions ++ (flat_map row_bytes reply.answer ++ (flat_map row_bytes reply.authority ++ flat_map row_bytes reply.additional))
 
@@ -79,5 +79,5 @@ header_with number flags counts =
 abbrev pub header_of : Reply → List ℕ
 header_of reply = header_with reply.id (flags_of reply) (counts_of reply)
 
-abbrev pub bytes_of : Reply → List ℕ
+unfoldable pub bytes_of : Reply → List ℕ
 bytes_of reply = header_of reply ++ body_of reply

@@ -1,6 +1,6 @@
 //! The pieces of a reply, each written behind the one before it.
 
-ghost use Rattle.std.specs.Prelude.{◌≡◌, ◌+◌, ◌<◌, ◌≤◌, ◌^◌, length};
+ghost use Rattle.std.specs.Prelude.{◌≡◌, ℕ, ◌+◌, ◌<◌, ◌≤◌, ◌^◌, length};
 ghost use Rattle.dn_name.specs.Name.{IsName};
 ghost use Rattle.dn_rdata.specs.Types.{IN};
 ghost use Rattle.dn_message.specs.Pieces.{begun, flags_of, header_with, question_bytes, row_bytes};

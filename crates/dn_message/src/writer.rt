@@ -44,6 +44,27 @@ pub(crate) struct Counts {
     pub(crate) additional: u16,
 }
 
+// The counts with one row more.
+fn one_more(counts: Counts, section: Section) -> Counts
+    requires { MayGrow counts section }
+    ensures { result ≡ one_more counts section }
+{
+    match section {
+        Section::Answer => Counts {
+            answer: counts.answer + 1,
+            ..counts
+        },
+        Section::Authority => Counts {
+            authority: counts.authority + 1,
+            ..counts
+        },
+        Section::Additional => Counts {
+            additional: counts.additional + 1,
+            ..counts
+        },
+    }
+}
+
 /// Writes a reply into a lent buffer: the question at most once and before all rows, then the rows in the order of their
 /// sections, names without pointers. The header is written last.
 #[derive(Drop)]
@@ -123,11 +144,7 @@ impl<'b> ReplyWriter<'b> {
         }
         let place = self.place;
         self.place = put_row(self.out, place, owner, ttl, rtype, rdata);
-        match section {
-            Section::Answer => self.counts.answer += 1,
-            Section::Authority => self.counts.authority += 1,
-            Section::Additional => self.counts.additional += 1,
-        }
+        self.counts = one_more(self.counts, section);
         Ok(())
     }
 

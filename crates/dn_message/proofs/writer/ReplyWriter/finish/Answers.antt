@@ -1,0 +1,8 @@
+use Rattle.dn_message.proofs.WriterLemmas.{finished, rest_kept}
+use Rattle.dn_message.proofs.writer.ReplyWriter.finish.Goals as goal
+
+pub returns-clause-reads : goal.returns-clause-reads
+returns-clause-reads c = λ reply holds. finished c.args.self reply holds c.bytes_of_header.result c.put.new.out c.put.result c.bytes_of_header.ensures c.put.ensures.appends
+
+pub returns-clause-rest : goal.returns-clause-rest
+returns-clause-rest c = λ reply holds. rest_kept c.args.self reply holds c.bytes_of_header.result c.put.new.out c.put.result c.bytes_of_header.ensures c.put.ensures.appends
