@@ -4,7 +4,7 @@ pub mod FieldLemmas
 pub mod PieceLemmas
 pub mod QueryLemmas
 pub mod QueryOfLemmas
+pub mod ReadBackLemmas
 pub mod RecordLemmas
-pub mod ReplyLemmas
 pub mod WriterLemmas
 pub mod WritingLemmas

@@ -102,7 +102,7 @@ module _ (message : List ℕ) (at : ℕ) (head : RecordHead) (place : ℕ) (is_h
   passes_one next within room next_is =
       let len_is : length data_of ≡ head.len = length-take-le head.len (drop place message) (omega (arith, length-drop place message)) in
       let standing : Stands message place data_of next =
-      stands message place next data_of (drop head.len (drop place message)) (sym (take-append-drop head.len (drop place message))) (omega (arith, len_is, next_is)) in
+          stands message place next data_of (drop head.len (drop place message)) (sym (take-append-drop head.len (drop place message))) (omega (arith, len_is, next_is)) in
       record {
         row = row_of;
         is = record {

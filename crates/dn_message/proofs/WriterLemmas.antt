@@ -17,7 +17,7 @@ use Rattle.dn_message.specs.Reply.{IsReply}
 use Rattle.dn_message.specs.Writer.{AreValid, Holds, IsAsked, IsRow, MayAsk, MayGrow, one_more, size}
 use Rattle.dn_message.specs.Writing.{Appends}
 use Rattle.dn_message.proofs.PieceLemmas.{bytes_size, question_on, row_on}
-use Rattle.dn_message.proofs.ReplyLemmas.{FlagsFit, code_fits, read_back}
+use Rattle.dn_message.proofs.ReadBackLemmas.{FlagsFit, code_fits, read_back}
 
 -- ---- one piece more
 

@@ -152,6 +152,7 @@ impl<'b> ReplyWriter<'b> {
     pub fn finish(self) -> usize
         requires { 12 ≤ size self }
         ensures reads { (reply : Reply) → Holds self.entry reply → IsReply (take result self.exit.0.now) reply × (result ≡ length (bytes_of reply)) }
+        ensures within { (reply : Reply) → Holds self.entry reply → result ≤ size self.entry }
         ensures rest { (reply : Reply) → Holds self.entry reply → drop result self.exit.0.now ≡ drop result self.entry.out.now }
     {
         let ReplyWriter {

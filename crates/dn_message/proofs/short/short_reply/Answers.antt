@@ -1,5 +1,5 @@
 use Rattle.std.proofs.Common.{◌≡◌, ◌∙◌, ap, arith, length, sym, take}
-use Rattle.dn_message.proofs.ReplyLemmas.{short_read}
+use Rattle.dn_message.proofs.ReadBackLemmas.{short_read}
 use Rattle.dn_message.proofs.short.short_reply.Goals as goal
 
 pub returns-clause-reads : goal.returns-clause-reads
