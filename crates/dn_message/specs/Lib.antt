@@ -6,8 +6,10 @@ pub mod Pieces
 pub mod Query
 pub mod QueryOf
 pub mod Reading
+pub mod Reads
 pub mod Record
 pub mod Reply
 pub mod Short
 pub mod Writer
+pub mod ReplyReading
 pub mod Writing

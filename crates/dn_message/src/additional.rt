@@ -4,7 +4,7 @@ ghost use Rattle.std.specs.Prelude.{◌≡◌, ℕ, ◌+◌, ◌≤◌, false, l
 ghost use Rattle.dn_name.specs.Exact.{Exact};
 ghost use Rattle.dn_message.specs.Reading.{Completes, Sees, saw};
 
-use crate::error::{FormError, FormFault};
+use crate::error::{FormError, FormFault, trailing};
 use crate::query::Opt;
 use crate::record::{pass_record, type_at};
 
@@ -29,10 +29,7 @@ pub(crate) fn read_additional(bytes: &[u8], at: usize, count: u16) -> Result<See
         (seen, place) = see(bytes, place, seen)?;
     }
     if place < bytes.len() {
-        return Err(FormError {
-            place,
-            kind: FormFault::Trailing,
-        });
+        return Err(trailing(place));
     }
     Ok(seen)
 }

@@ -1,3 +1,4 @@
+use dn_io::OutOfMemory;
 use dn_name::{NameError, NameFault};
 
 /// Why bytes aren't a message.
@@ -29,6 +30,37 @@ pub struct FormError {
     pub kind: FormFault,
 }
 
+/// Why a message wasn't read into memory.
+#[derive(Clone, Copy, Debug, PartialEq, Eq)]
+pub enum ReadError {
+    /// The bytes aren't a message.
+    Form(FormError),
+    /// Memory wasn't to be had.
+    OutOfMemory,
+}
+
+impl From<FormError> for ReadError {
+    ghost use Rattle.std.specs.Prelude.{◌≡◌};
+    ghost use Rattle.dn_message.specs.declared.error.ReadError.TheVariants as errors;
+
+    ghost from_gives = { λ fault error. error ≡ errors.Form fault };
+
+    fn from(fault: FormError) -> Self {
+        ReadError::Form(fault)
+    }
+}
+
+impl From<OutOfMemory> for ReadError {
+    ghost use Rattle.std.specs.Prelude.{◌≡◌};
+    ghost use Rattle.dn_message.specs.declared.error.ReadError.TheVariants as errors;
+
+    ghost from_gives = { λ _ error. error ≡ errors.OutOfMemory };
+
+    fn from(_refused: OutOfMemory) -> Self {
+        ReadError::OutOfMemory
+    }
+}
+
 // The fault of a field that the message's end cuts.
 pub(crate) fn cut(bytes: &[u8]) -> FormError {
     FormError {
@@ -42,5 +74,13 @@ pub(crate) fn name_fault(error: NameError) -> FormError {
     FormError {
         place: error.place,
         kind: FormFault::Name(error.kind),
+    }
+}
+
+// The fault of bytes behind the last field, the first of which stands at the place.
+pub(crate) fn trailing(place: usize) -> FormError {
+    FormError {
+        place,
+        kind: FormFault::Trailing,
     }
 }

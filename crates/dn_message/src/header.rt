@@ -3,6 +3,7 @@
 ghost use Rattle.std.specs.Prelude.{◌≤◌, length, OnErr, OnOk};
 ghost use Rattle.dn_name.specs.Exact.{Exact};
 ghost use Rattle.dn_message.specs.Reading.{IsQueryHeader, IsQueryCounts};
+ghost use Rattle.dn_message.specs.ReplyReading.{AreCounts, AreReplyFlags, IsReplyHeader};
 
 use crate::error::{FormError, FormFault};
 use crate::number::{check_u16, u16_at};
@@ -42,4 +43,66 @@ fn check_query_counts(bytes: &[u8]) -> Result<(), FormError>
     check_u16(bytes, 4, 1, FormFault::QuestionCount)?;
     check_u16(bytes, 6, 0, FormFault::SectionCount)?;
     check_u16(bytes, 8, 0, FormFault::SectionCount)
+}
+
+// How many entries each section of a message has.
+#[derive(Clone, Copy)]
+pub(crate) struct Counts {
+    pub(crate) questions: u16,
+    pub(crate) answer: u16,
+    pub(crate) authority: u16,
+    pub(crate) additional: u16,
+}
+
+// What the header of a reply says: its number, its flags and its counts.
+#[derive(Clone, Copy)]
+pub(crate) struct ReplyHeader {
+    pub(crate) id: u16,
+    pub(crate) flags: u16,
+    pub(crate) counts: Counts,
+}
+
+// Reads the header of a reply. That the message isn't one is answered also where it ends behind the flags.
+pub(crate) fn read_reply_header(bytes: &[u8]) -> Result<ReplyHeader, FormError>
+    ensures exact { Exact (IsReplyHeader bytes.now) result }
+    ensures within { OnOk result (12 ≤ length bytes.now) }
+{
+    let id = u16_at(bytes, 0)?;
+    let flags = read_reply_flags(bytes)?;
+    let counts = read_counts(bytes)?;
+    Ok(ReplyHeader { id, flags, counts })
+}
+
+// Reads the flags, which say that the message is a reply.
+fn read_reply_flags(bytes: &[u8]) -> Result<u16, FormError>
+    requires { 2 ≤ length bytes.now }
+    ensures exact { Exact (AreReplyFlags bytes.now) result }
+    ensures within { OnOk result (4 ≤ length bytes.now) }
+{
+    match u16_at(bytes, 2) {
+        Ok(flags) if flags / 32768 % 2 == 1 => Ok(flags),
+        Ok(_) => Err(FormError {
+            place: 2,
+            kind: FormFault::NotReply,
+        }),
+        Err(error) => Err(error),
+    }
+}
+
+// Reads the four counts behind the flags.
+fn read_counts(bytes: &[u8]) -> Result<Counts, FormError>
+    requires { 4 ≤ length bytes.now }
+    ensures exact { Exact (AreCounts bytes.now) result }
+    ensures within { OnOk result (12 ≤ length bytes.now) }
+{
+    let questions = u16_at(bytes, 4)?;
+    let answer = u16_at(bytes, 6)?;
+    let authority = u16_at(bytes, 8)?;
+    let additional = u16_at(bytes, 10)?;
+    Ok(Counts {
+        questions,
+        answer,
+        authority,
+        additional,
+    })
 }

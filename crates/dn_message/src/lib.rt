@@ -1,5 +1,7 @@
 //! DNS messages (RFC 1035 4.1): which kind of message bytes are, queries read from bytes and written, and replies
 //! written. No call takes memory.
+//! DNS messages (RFC 1035 4.1): which kind of message bytes are, queries read from bytes and written, and replies read.
+//! `read_reply` alone takes memory.
 #![tactic(auto)]
 
 mod additional;
@@ -11,21 +13,26 @@ mod number;
 mod pieces;
 mod query;
 mod question;
+mod questions;
 mod rcode;
+mod rdata;
 mod record;
 mod reply;
+mod row;
 mod rr;
 mod short;
+mod sections;
 mod threads;
 mod writer;
 mod writing;
 
 pub use decided::the_query_is_one;
 pub use error::{FormError, FormFault};
+pub use error::{FormError, FormFault, ReadError};
 pub use kind::{Kind, kind_of};
 pub use query::{Opt, Query, read_query};
 pub use rcode::Rcode;
-pub use reply::{Question, Reply};
+pub use reply::{Question, Reply, read_reply};
 pub use rr::Rr;
 pub use short::short_reply;
 pub use writer::{ReplyHead, ReplyWriter, Section};

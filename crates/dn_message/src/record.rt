@@ -1,6 +1,6 @@
 //! One record of a message (RFC 1035 4.1.3).
 
-ghost use Rattle.std.specs.Prelude.{◌≡◌, ℕ, ◌+◌, ◌<◌, ◌≤◌, List, ◌++◌, length, IfOk, IfNone, IfSome};
+ghost use Rattle.std.specs.Prelude.{◌≡◌, ℕ, ◌+◌, ◌<◌, ◌≤◌, List, ◌++◌, length, IfOk, IfNone, IfSome, OnErr};
 ghost use Rattle.dn_name.specs.Exact.{Exact};
 ghost use Rattle.dn_name.specs.Name.{Labels};
 ghost use Rattle.dn_name.specs.Spelled.{Spelled};
@@ -27,20 +27,27 @@ pub(crate) fn pass_record(bytes: &[u8], at: usize) -> Result<(RecordHead, usize)
     ensures passes { Passes bytes.now at result }
     ensures within { IfOk result (λ found. found.1 ≤ length bytes.now) }
 {
-    match read_head(bytes, at) {
-        Ok((head, place)) => {
-            let len = usize::from(head.len);
-            if len > bytes.len() - place {
-                return Err(cut(bytes));
-            }
-            Ok((head, place + len))
-        }
-        Err(error) => Err(error),
+    let (head, place) = read_head(bytes, at)?;
+    let next = behind_data(bytes, place, head.len)?;
+    Ok((head, next))
+}
+
+// The place behind data of so many bytes.
+pub(crate) fn behind_data(bytes: &[u8], place: usize, len: u16) -> Result<usize, FormError>
+    requires { place ≤ length bytes.now }
+    ensures found { IfOk result (λ next. next ≡ place + len) }
+    ensures within { IfOk result (λ next. next ≤ length bytes.now) }
+    ensures cut { OnErr result (length bytes.now < place + len) }
+{
+    let len = usize::from(len);
+    if len > bytes.len() - place {
+        return Err(cut(bytes));
     }
+    Ok(place + len)
 }
 
 // Reads what stands before a record's data, and answers the place of these.
-fn read_head(bytes: &[u8], at: usize) -> Result<(RecordHead, usize), FormError>
+pub(crate) fn read_head(bytes: &[u8], at: usize) -> Result<(RecordHead, usize), FormError>
     requires { at ≤ length bytes.now }
     ensures exact { Exact (λ (found : RecordHead × ℕ). IsHead bytes.now at found.0 found.1) result }
     ensures within { IfOk result (λ found. found.1 ≤ length bytes.now) }

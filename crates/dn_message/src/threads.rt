@@ -1,6 +1,6 @@
 //! What the readers give is Send and Sync: these calls can be made for such types alone.
 
-use crate::{FormError, FormFault, Kind, Opt, Query, Question, Rcode, Reply, Rr};
+use crate::{FormError, FormFault, Kind, Opt, Query, Question, Rcode, ReadError, Reply, Rr};
 
 fn crosses<T: Send + Sync>() {}
 
@@ -12,6 +12,7 @@ fn types_cross() {
     crosses::<Query>();
     crosses::<Question>();
     crosses::<Rcode>();
+    crosses::<ReadError>();
     crosses::<Reply>();
     crosses::<Rr>();
 }

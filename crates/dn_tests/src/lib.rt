@@ -14,6 +14,8 @@ mod names;
 #[cfg(test)]
 mod passes;
 #[cfg(test)]
+mod replies;
+#[cfg(test)]
 mod scripts;
 #[cfg(test)]
 mod tables;
