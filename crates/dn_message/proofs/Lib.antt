@@ -5,6 +5,11 @@ pub mod PieceLemmas
 pub mod QueryLemmas
 pub mod QueryOfLemmas
 pub mod ReadBackLemmas
+pub mod EntryLemmas
+pub mod FieldLemmas
+pub mod GrowingLemmas
+pub mod QueryLemmas
+pub mod QuestionLemmas
 pub mod RecordLemmas
 pub mod WriterLemmas
 pub mod WritingLemmas

@@ -161,8 +161,11 @@ fn add_texts(bytes: &[u8], at: usize, end: usize, out: &mut List<u8>) -> Result<
 {
     let (front, _) = bytes.split_at(end);
     match front.split_at_checked(at) {
-        Some((_, rest)) if check_rdata(TXT, rest).is_ok() => add_rest(bytes, at, end, out),
-        _ => Err(PartError::Missing),
+        Some((_, rest)) => match check_rdata(TXT, rest) {
+            Ok(()) => add_rest(bytes, at, end, out),
+            Err(_) => Err(PartError::Missing),
+        },
+        None => Err(PartError::Missing),
     }
 }
 
