@@ -12,4 +12,7 @@ pub mod QueryLemmas
 pub mod QuestionLemmas
 pub mod RecordLemmas
 pub mod WriterLemmas
+pub mod ReplyLemmas
+pub mod SectionLemmas
+pub mod WithinLemmas
 pub mod WritingLemmas

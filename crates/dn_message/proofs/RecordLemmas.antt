@@ -3,11 +3,13 @@ use Rattle.std.proofs.Common.{◌≡◌, ℕ, ◌+◌, ◌-◌, ◌<◌, ◌≤�
 use Rattle.dn_name.specs.Name.{Labels}
 use Rattle.dn_name.specs.Spelled.{Spelled}
 use Rattle.dn_rdata.specs.Laid.{Laid, Stands}
+use Rattle.dn_rdata.specs.declared.parts.Part.{Part}
 use Rattle.dn_message.specs.declared.record.RecordHead.{RecordHead}
 use Rattle.dn_message.specs.Reading.{IsHead, PassesOne, head_of}
 use Rattle.dn_message.specs.Record.{Form, IsRr, any_data, fields}
 use Rattle.dn_message.specs.declared.rr.Rr.{Rr}
 use Rattle.dn_message.proofs.FieldLemmas.{any_laid, any_stands, four_once, same_front, stands, two_once}
+use Rattle.dn_message.proofs.WithinLemmas.{data_within}
 
 -- what two runs of fields say where they stand at the front of one list
 pub record SameFields (left right : RecordHead) : Type 0 where
@@ -88,6 +90,45 @@ module _ (form : Form) (message : List ℕ) (at : ℕ) (head : RecordHead) (plac
         next_is = omega (arith, is.next_is, same_len, there);
       }
 
+  -- the message ends before the data do
+  pub cut_data : place ≤ length message → length message < place + head.len → (other : Rr × ℕ) → IsRr form message at other.0 other.1 → ⊥
+  cut_data within short other is =
+      let begun = begins other.0 other.1 is in
+      omega (arith, data_within message (form other.0.rtype other.0.rclass) place other.1 other.0.rdata begun.data_laid within, begun.next_is)
+
+  module _ (parts : List Part) (parts_are : parts ≡ form head.rtype head.rclass) (next : ℕ) (next_is : next ≡ place + head.len) where
+    -- the data of any record at the place lie behind this head
+    data_of_row : (row : Rr) (behind : ℕ) → IsRr form message at row behind → Laid message place next parts row.rdata
+    data_of_row row behind is =
+        let begun = begins row behind is in
+        let laid = subst (λ (h : RecordHead). Laid message place behind (form h.rtype h.rclass) row.rdata) begun.head_is begun.data_laid in
+        subst (λ ps. Laid message place next ps row.rdata) (sym parts_are)
+        (subst (λ k. Laid message place k (form head.rtype head.rclass) row.rdata) (begun.next_is ∙ sym next_is) laid)
+
+    pub no_data : ((other : List ℕ) → Laid message place next parts other → ⊥) → (other : Rr × ℕ) → IsRr form message at other.0 other.1 → ⊥
+    no_data none other is = none other.0.rdata (data_of_row other.0 other.1 is)
+
+    pub row_found : (rdata : List ℕ) → Laid message place next parts rdata → ((other : List ℕ) → Laid message place next parts other → other ≡ rdata)
+        → IsRr form message at (record { name = head.name; rtype = head.rtype; rclass = head.rclass; ttl = head.ttl; rdata = rdata }) next
+        × ((other : Rr × ℕ) → IsRr form message at other.0 other.1
+        → other ≡ (record { name = head.name; rtype = head.rtype; rclass = head.rclass; ttl = head.ttl; rdata = rdata }, next))
+    row_found rdata laid only_data = (
+      record {
+        behind = is_head.behind;
+        len = head.len;
+        name_spelled = is_head.name_spelled;
+        fields_stand = is_head.fields_stand;
+        data_laid = subst (λ ps. Laid message (is_head.behind + 10) next ps rdata) parts_are (subst (λ k. Laid message k next parts rdata) is_head.place_is laid);
+        next_is = omega (arith, next_is, is_head.place_is);
+      },
+      λ other is.
+          let begun = begins other.0 other.1 is in
+          let h = begun.head_is in
+          let d = only_data other.0.rdata (data_of_row other.0 other.1 is) in
+          ap₂ (λ (x : Rr) (y : ℕ). (x, y)) (λ i. record { name = (h i).name; rtype = (h i).rtype; rclass = (h i).rclass; ttl = (h i).ttl; rdata = d i })
+          (begun.next_is ∙ sym next_is),
+    )
+
 -- ---- a record whose data are any bytes
 
 module _ (message : List ℕ) (at : ℕ) (head : RecordHead) (place : ℕ) (is_head : IsHead message at head place)
@@ -125,9 +166,3 @@ module _ (message : List ℕ) (at : ℕ) (head : RecordHead) (place : ℕ) (is_h
     where
       same_row : (other : Rr) (len : ℕ) → head_of other len ≡ head → other.rdata ≡ data_of → other ≡ row_of
       same_row other len h d i = record { name = (h i).name; rtype = (h i).rtype; rclass = (h i).rclass; ttl = (h i).ttl; rdata = d i }
-
-  pub cut_data : place ≤ length message → length message - place < head.len → (other : Rr × ℕ) → IsRr any_data message at other.0 other.1 → ⊥
-  cut_data within short other is =
-      let begun = begins any_data message at head place is_head only other.0 other.1 is in
-      let lying = any_stands message place other.1 other.0.rdata begun.data_laid in
-      omega (arith, lying.next_is, begun.next_is, ap length lying.bytes, length-append other.0.rdata (drop other.1 message), length-drop place message)
