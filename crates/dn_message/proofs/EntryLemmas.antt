@@ -3,7 +3,8 @@ use Rattle.std.proofs.Common.{◌≡◌, ℕ, suc, ◌+◌, List, [], ◌∷◌,
 use Rattle.dn_message.specs.declared.error.ReadError.{ReadError}
 use Rattle.dn_message.specs.declared.error.ReadError.TheVariants as errors
 use Rattle.dn_message.specs.Reads.{Reads}
-use Rattle.dn_message.specs.ReplyReading.{AreEntries, Follow}
+use Rattle.dn_message.specs.Record.{Follow}
+use Rattle.dn_message.specs.ReplyReading.{AreEntries}
 
 -- where a fault of a part is a fault of the whole, so is what a reader of the part refuses
 pub refused : {Part Whole : Type 0} (IsPart : Part → Type 0) (IsWhole : Whole → Type 0) (why : ReadError) → Reads IsPart (Err why)

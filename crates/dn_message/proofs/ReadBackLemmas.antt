@@ -14,7 +14,7 @@ use Rattle.dn_message.specs.declared.rcode.Rcode.TheVariants.{NoError, FormErr, 
 use Rattle.dn_message.specs.declared.reply.Question.{Question}
 use Rattle.dn_message.specs.declared.reply.Reply.{Reply}
 use Rattle.dn_message.specs.declared.rr.Rr.{Rr}
-use Rattle.dn_message.specs.declared.writer.Counts.{Counts}
+use Rattle.dn_message.specs.declared.counts.Counts.{Counts}
 use Rattle.dn_message.specs.Header.{IsHeader, number_of_rcode}
 use Rattle.dn_message.specs.Pieces.{bit, body_of, bytes_of, counts_of, flags_of, header_of, header_with, question_bytes, row_bytes}
 use Rattle.dn_message.specs.Record.{AreRrs, IsRr, fields, typed_data}

@@ -1,35 +1,12 @@
 -- A reply is its header and its sections.
-use Rattle.std.proofs.Common.{◌≡◌, ℕ, List, [], ◌∷◌, length, refl, sym, ap, subst, ◌∙◌}
-use Rattle.dn_message.specs.declared.header.Counts.{Counts}
+use Rattle.std.proofs.Common.{◌≡◌, ℕ, List, length, refl, sym, ap, subst, ◌∙◌}
+use Rattle.dn_message.specs.declared.counts.Counts.{Counts}
 use Rattle.dn_message.specs.declared.header.ReplyHeader.{ReplyHeader}
-use Rattle.dn_message.specs.declared.reply.Question.{Question}
 use Rattle.dn_message.specs.declared.reply.Reply.{Reply}
-use Rattle.dn_message.specs.declared.rr.Rr.{Rr}
 use Rattle.dn_message.specs.declared.sections.Sections.{Sections}
 use Rattle.dn_message.specs.Header.{IsHeader, is_authoritative, is_recursion_available, is_recursion_desired, is_truncated, opcode, rcode_in, zero_bits}
-use Rattle.dn_message.specs.Record.{AreRrs, Form, IsRr, typed_data}
-use Rattle.dn_message.specs.Reply.{AreQuestions, FlagsSay, IsQuestion, IsReply}
-use Rattle.dn_message.specs.ReplyReading.{AreSections, Follow, IsReplyHeader}
-
--- ---- records and questions are entries
-
-module _ (form : Form) (message : List ℕ) where
-  pub rows_follow : (at : ℕ) (rows : List Rr) (next : ℕ) → AreRrs form message at rows next → Follow (IsRr form message) at rows next
-  rows_follow at [] next are = are
-  rows_follow at (row ∷ rows) next are = (are.0, are.1, rows_follow are.0 rows next are.2)
-
-  pub following_rows : (at : ℕ) (rows : List Rr) (next : ℕ) → Follow (IsRr form message) at rows next → AreRrs form message at rows next
-  following_rows at [] next follow = follow
-  following_rows at (row ∷ rows) next follow = (follow.0, follow.1, following_rows follow.0 rows next follow.2)
-
-module _ (message : List ℕ) where
-  pub questions_follow : (at : ℕ) (questions : List Question) (next : ℕ) → AreQuestions message at questions next → Follow (IsQuestion message) at questions next
-  questions_follow at [] next are = are
-  questions_follow at (question ∷ questions) next are = (are.0, are.1, questions_follow are.0 questions next are.2)
-
-  following_questions : (at : ℕ) (questions : List Question) (next : ℕ) → Follow (IsQuestion message) at questions next → AreQuestions message at questions next
-  following_questions at [] next follow = follow
-  following_questions at (question ∷ questions) next follow = (follow.0, follow.1, following_questions follow.0 questions next follow.2)
+use Rattle.dn_message.specs.Reply.{FlagsSay, IsReply}
+use Rattle.dn_message.specs.ReplyReading.{AreSections, IsReplyHeader}
 
 -- ---- the header and the sections of a reply
 
@@ -60,10 +37,10 @@ sections_in message reply is = record {
   answer_at = is.answer_at;
   authority_at = is.authority_at;
   additional_at = is.additional_at;
-  questions = (refl, questions_follow message 12 reply.questions is.answer_at is.questions);
-  answer = (refl, rows_follow typed_data message is.answer_at reply.answer is.authority_at is.answer);
-  authority = (refl, rows_follow typed_data message is.authority_at reply.authority is.additional_at is.authority);
-  additional = (refl, rows_follow typed_data message is.additional_at reply.additional (length message) is.additional);
+  questions = (refl, is.questions);
+  answer = (refl, is.answer);
+  authority = (refl, is.authority);
+  additional = (refl, is.additional);
 }
 
 pub no_header : (message : List ℕ) → ((other : ReplyHeader) → IsReplyHeader message other → ⊥) → (reply : Reply) → IsReply message reply → ⊥
@@ -123,10 +100,10 @@ module _ (message : List ℕ) (header : ReplyHeader) (is_header : IsReplyHeader 
         answer_at = are_sections.answer_at;
         authority_at = are_sections.authority_at;
         additional_at = are_sections.additional_at;
-        questions = following_questions message 12 sections.questions are_sections.answer_at are_sections.questions.1;
-        answer = following_rows typed_data message are_sections.answer_at sections.answer are_sections.authority_at are_sections.answer.1;
-        authority = following_rows typed_data message are_sections.authority_at sections.authority are_sections.additional_at are_sections.authority.1;
-        additional = following_rows typed_data message are_sections.additional_at sections.additional (length message) are_sections.additional.1;
+        questions = are_sections.questions.1;
+        answer = are_sections.answer.1;
+        authority = are_sections.authority.1;
+        additional = are_sections.additional.1;
       },
       λ other is.
           let h = same_header other is in

@@ -7,7 +7,7 @@ use Rattle.dn_name.specs.Name.{IsName}
 use Rattle.dn_message.specs.declared.reply.Question.{Question}
 use Rattle.dn_message.specs.declared.reply.Reply.{Reply}
 use Rattle.dn_message.specs.declared.rr.Rr.{Rr}
-use Rattle.dn_message.specs.declared.writer.Counts.{Counts}
+use Rattle.dn_message.specs.declared.counts.Counts.{Counts}
 use Rattle.dn_message.specs.declared.writer.ReplyHead.{ReplyHead}
 use Rattle.dn_message.specs.declared.writer.ReplyWriter.{ReplyWriter}
 use Rattle.dn_message.specs.declared.writer.Section.{Section}
@@ -141,17 +141,21 @@ module _ (writer : ReplyWriter) (reply : Reply) (holds : Holds writer reply) (he
       let flags : flags_of (begun writer.head) ≡ flags_of reply = sym (ap flags_of holds.head_is) in
       header_is ∙ λ i. header_with (id i) (flags i) (holds.counts_are i)
 
-  pub finished : IsReply (take writer.place new) reply × (writer.place ≡ length (bytes_of reply))
+  -- the bytes are those of the pieces
+  pub finished_bytes : take writer.place new ≡ bytes_of reply
   unfolding bytes_of
-  finished =
+  finished_bytes =
       let rest = writer.place - 12 in
       let place : writer.place ≡ length header + rest = omega (arith, holds.place_is, bytes_size reply, ap length header_is) in
       let place_is : writer.place ≡ 12 + rest = omega (arith, place, ap length header_is) in
       let front : take writer.place new ≡ header ++ take rest (drop 12 writer.out.now) =
       ap (take writer.place) now_is ∙ ap (λ k. take k (header ++ drop 12 writer.out.now)) place ∙ take-append-add header (drop 12 writer.out.now) rest in
       let body : take rest (drop 12 writer.out.now) ≡ body_of reply = sym (drop-take 12 rest writer.out.now) ∙ ap (λ k. drop 12 (take k writer.out.now)) (sym place_is) ∙ holds.body_is in
-      let bytes : take writer.place new ≡ bytes_of reply = front ∙ λ i. header_on i ++ body i in
-      (read_back (take writer.place new) reply bytes holds.valid (flags_fit writer.head reply holds.head_is), holds.place_is)
+      front ∙ λ i. header_on i ++ body i
+
+  -- and they are read as these
+  pub finished : IsReply (take writer.place new) reply × (writer.place ≡ length (bytes_of reply))
+  finished = (read_back (take writer.place new) reply finished_bytes holds.valid (flags_fit writer.head reply holds.head_is), holds.place_is)
 
   pub rest_kept : drop writer.place new ≡ drop writer.place writer.out.now
   rest_kept =

@@ -9,7 +9,7 @@ pub mod Reading
 pub mod Reads
 pub mod Record
 pub mod Reply
+pub mod ReplyReading
 pub mod Short
 pub mod Writer
-pub mod ReplyReading
 pub mod Writing

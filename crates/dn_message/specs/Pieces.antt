@@ -5,7 +5,7 @@ use Rattle.dn_name.specs.Name.{wire_of}
 use Rattle.dn_message.specs.declared.reply.Question.{Question}
 use Rattle.dn_message.specs.declared.reply.Reply.{Reply}
 use Rattle.dn_message.specs.declared.rr.Rr.{Rr}
-use Rattle.dn_message.specs.declared.writer.Counts.{Counts}
+use Rattle.dn_message.specs.declared.counts.Counts.{Counts}
 use Rattle.dn_message.specs.declared.writer.ReplyHead.{ReplyHead}
 use Rattle.dn_message.specs.declared.writer.Section.{Section}
 use Rattle.dn_message.specs.declared.writer.Section.TheVariants.{Additional, Answer, Authority}

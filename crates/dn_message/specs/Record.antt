@@ -35,7 +35,11 @@ pub record IsRr (form : Form) (message : List ℕ) (at : ℕ) (row : Rr) (next :
   pub data_laid : Laid message (behind + 10) next (form row.rtype row.rclass) row.rdata
   pub next_is : next ≡ behind + 10 + len
 
--- records one behind the other, from a place up to another
+-- entries one behind the other, from a place up to another, each of which `Is` there
+abbrev pub Follow : {Entry : Type 0} → (ℕ → Entry → ℕ → Type 0) → ℕ → List Entry → ℕ → Type 0
+Follow Is at [] next = next ≡ at
+Follow Is at (entry ∷ entries) next = (behind : ℕ) × Is at entry behind × Follow Is behind entries next
+
+-- records one behind the other
 abbrev pub AreRrs : Form → List ℕ → ℕ → List Rr → ℕ → Type 0
-AreRrs form message at [] next = next ≡ at
-AreRrs form message at (row ∷ rows) next = (behind : ℕ) × IsRr form message at row behind × AreRrs form message behind rows next
+AreRrs form message = Follow (IsRr form message)

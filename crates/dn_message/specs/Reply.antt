@@ -6,7 +6,7 @@ use Rattle.dn_message.specs.declared.reply.Question.{Question}
 use Rattle.dn_message.specs.declared.reply.Reply.{Reply}
 use Rattle.dn_message.specs.Fields.{two_bytes}
 use Rattle.dn_message.specs.Header.{IsHeader, is_authoritative, is_recursion_available, is_recursion_desired, is_reply, is_truncated, opcode, rcode_in, zero_bits}
-use Rattle.dn_message.specs.Record.{AreRrs, typed_data}
+use Rattle.dn_message.specs.Record.{AreRrs, Follow, typed_data}
 
 -- what the flags say, each bit by its place (RFC 1035 4.1.1)
 pub record FlagsSay (flags : ℕ) (reply : Reply) : Type 0 where
@@ -28,8 +28,7 @@ pub record IsQuestion (message : List ℕ) (at : ℕ) (question : Question) (nex
 
 -- questions one behind the other, from a place up to another
 abbrev pub AreQuestions : List ℕ → ℕ → List Question → ℕ → Type 0
-AreQuestions message at [] next = next ≡ at
-AreQuestions message at (question ∷ questions) next = (behind : ℕ) × IsQuestion message at question behind × AreQuestions message behind questions next
+AreQuestions message = Follow (IsQuestion message)
 
 -- All bytes of the message are this reply: the header with the flags and the four counts, and then the four sections, behind
 -- which nothing stands.

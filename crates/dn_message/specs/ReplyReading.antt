@@ -3,12 +3,12 @@ use Rattle.std.specs.Prelude.{◌≡◌, ℕ, ◌/◌, ◌%◌, true, List, [], 
 use Rattle.dn_rdata.specs.Laid.{Stands}
 use Rattle.dn_message.specs.declared.rdata.PartError.{PartError}
 use Rattle.dn_message.specs.declared.rdata.PartError.TheVariants.{Missing, OutOfMemory}
-use Rattle.dn_message.specs.declared.header.Counts.{Counts}
+use Rattle.dn_message.specs.declared.counts.Counts.{Counts}
 use Rattle.dn_message.specs.declared.header.ReplyHeader.{ReplyHeader}
 use Rattle.dn_message.specs.declared.sections.Sections.{Sections}
 use Rattle.dn_message.specs.Fields.{two_bytes}
 use Rattle.dn_message.specs.Header.{IsHeader, is_reply}
-use Rattle.dn_message.specs.Record.{IsRr, typed_data}
+use Rattle.dn_message.specs.Record.{Follow, IsRr, typed_data}
 use Rattle.dn_message.specs.Reply.{IsQuestion}
 
 -- ---- the header
@@ -30,11 +30,6 @@ pub record IsReplyHeader (message : List ℕ) (header : ReplyHeader) : Type 0 wh
   pub counts_stand : AreCounts message header.counts
 
 -- ---- entries
-
--- entries one behind the other, from a place up to another, each of which `Is` there
-abbrev pub Follow : {Entry : Type 0} → (ℕ → Entry → ℕ → Type 0) → ℕ → List Entry → ℕ → Type 0
-Follow Is at [] next = next ≡ at
-Follow Is at (entry ∷ entries) next = (behind : ℕ) × Is at entry behind × Follow Is behind entries next
 
 -- so many of them
 abbrev pub AreEntries : {Entry : Type 0} → (ℕ → Entry → ℕ → Type 0) → ℕ → ℕ → List Entry → ℕ → Type 0

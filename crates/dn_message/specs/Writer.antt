@@ -8,7 +8,7 @@ use Rattle.dn_rdata.specs.Types.{IN}
 use Rattle.dn_message.specs.declared.reply.Question.{Question}
 use Rattle.dn_message.specs.declared.reply.Reply.{Reply}
 use Rattle.dn_message.specs.declared.rr.Rr.{Rr}
-use Rattle.dn_message.specs.declared.writer.Counts.{Counts}
+use Rattle.dn_message.specs.declared.counts.Counts.{Counts}
 use Rattle.dn_message.specs.declared.writer.ReplyWriter.{ReplyWriter}
 use Rattle.dn_message.specs.declared.writer.Section.{Section}
 use Rattle.dn_message.specs.declared.writer.Section.TheVariants.{Additional, Answer, Authority}

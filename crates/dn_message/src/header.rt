@@ -5,6 +5,7 @@ ghost use Rattle.dn_name.specs.Exact.{Exact};
 ghost use Rattle.dn_message.specs.Reading.{IsQueryHeader, IsQueryCounts};
 ghost use Rattle.dn_message.specs.ReplyReading.{AreCounts, AreReplyFlags, IsReplyHeader};
 
+use crate::counts::Counts;
 use crate::error::{FormError, FormFault};
 use crate::number::{check_u16, u16_at};
 
@@ -43,15 +44,6 @@ fn check_query_counts(bytes: &[u8]) -> Result<(), FormError>
     check_u16(bytes, 4, 1, FormFault::QuestionCount)?;
     check_u16(bytes, 6, 0, FormFault::SectionCount)?;
     check_u16(bytes, 8, 0, FormFault::SectionCount)
-}
-
-// How many entries each section of a message has.
-#[derive(Clone, Copy)]
-pub(crate) struct Counts {
-    pub(crate) questions: u16,
-    pub(crate) answer: u16,
-    pub(crate) authority: u16,
-    pub(crate) additional: u16,
 }
 
 // What the header of a reply says: its number, its flags and its counts.

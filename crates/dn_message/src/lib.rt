@@ -1,10 +1,9 @@
-//! DNS messages (RFC 1035 4.1): which kind of message bytes are, queries read from bytes and written, and replies
-//! written. No call takes memory.
-//! DNS messages (RFC 1035 4.1): which kind of message bytes are, queries read from bytes and written, and replies read.
-//! `read_reply` alone takes memory.
+//! DNS messages (RFC 1035 4.1): which kind of message bytes are, queries read from bytes and written, replies written and
+//! read. `read_reply` alone takes memory.
 #![tactic(auto)]
 
 mod additional;
+mod counts;
 mod decided;
 mod error;
 mod header;
@@ -20,14 +19,13 @@ mod record;
 mod reply;
 mod row;
 mod rr;
-mod short;
 mod sections;
+mod short;
 mod threads;
 mod writer;
 mod writing;
 
 pub use decided::the_query_is_one;
-pub use error::{FormError, FormFault};
 pub use error::{FormError, FormFault, ReadError};
 pub use kind::{Kind, kind_of};
 pub use query::{Opt, Query, read_query};

@@ -7,7 +7,8 @@ ghost use Rattle.dn_message.specs.Pieces.{begun, flags_of, header_with, question
 ghost use Rattle.dn_message.specs.Record.{fields};
 ghost use Rattle.dn_message.specs.Writing.{Appends};
 
-use crate::writer::{Counts, ReplyHead};
+use crate::counts::Counts;
+use crate::writer::ReplyHead;
 use crate::writing::{bytes_of_kind, put, put_name};
 use dn_name::Name;
 use dn_rdata::IN;

@@ -4,8 +4,8 @@ ghost use Rattle.std.specs.Prelude.{◌≤◌, length};
 ghost use Rattle.dn_message.specs.Reads.{Reads};
 ghost use Rattle.dn_message.specs.ReplyReading.{AreSections};
 
+use crate::counts::Counts;
 use crate::error::{ReadError, trailing};
-use crate::header::Counts;
 use crate::questions::read_questions;
 use crate::reply::Question;
 use crate::row::read_rows;

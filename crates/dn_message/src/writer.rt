@@ -8,6 +8,7 @@ ghost use Rattle.dn_message.specs.Pieces.{begun, bytes_of, with_question, with_r
 ghost use Rattle.dn_message.specs.Reply.{IsReply};
 ghost use Rattle.dn_message.specs.Writer.{Accepts, Counted, Holds, MayAsk, MayGrow, one_more, size};
 
+use crate::counts::Counts;
 use crate::pieces::{bytes_of_header, put_question, put_row, question_len, row_len};
 use crate::rcode::Rcode;
 use crate::writing::put;
@@ -33,15 +34,6 @@ pub enum Section {
     Answer,
     Authority,
     Additional,
-}
-
-// How many pieces each section has.
-#[derive(Clone, Copy)]
-pub(crate) struct Counts {
-    pub(crate) questions: u16,
-    pub(crate) answer: u16,
-    pub(crate) authority: u16,
-    pub(crate) additional: u16,
 }
 
 // The counts with one row more.
@@ -152,6 +144,7 @@ impl<'b> ReplyWriter<'b> {
     pub fn finish(self) -> usize
         requires { 12 ≤ size self }
         ensures reads { (reply : Reply) → Holds self.entry reply → IsReply (take result self.exit.0.now) reply × (result ≡ length (bytes_of reply)) }
+        ensures bytes { (reply : Reply) → Holds self.entry reply → take result self.exit.0.now ≡ bytes_of reply }
         ensures within { (reply : Reply) → Holds self.entry reply → result ≤ size self.entry }
         ensures rest { (reply : Reply) → Holds self.entry reply → drop result self.exit.0.now ≡ drop result self.entry.out.now }
     {
