@@ -4,6 +4,7 @@ pub mod EntryLemmas
 pub mod FieldLemmas
 pub mod GrowingLemmas
 pub mod PieceLemmas
+pub mod OnceLemmas
 pub mod QueryLemmas
 pub mod QueryOfLemmas
 pub mod QuestionLemmas

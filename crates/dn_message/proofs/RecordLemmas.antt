@@ -1,5 +1,5 @@
 -- A record stands at a place once.
-use Rattle.std.proofs.Common.{◌≡◌, ℕ, ◌+◌, ◌-◌, ◌<◌, ◌≤◌, List, ◌++◌, length, take, drop, refl, sym, ap, ap₂, subst, ◌∙◌, arith, length-append, length-take-le, length-drop, take-append-drop}
+use Rattle.std.proofs.Common.{◌≡◌, ℕ, ◌+◌, ◌-◌, ◌<◌, ◌≤◌, List, ◌++◌, length, take, drop, refl, sym, ap, ap₂, subst, ◌∙◌, arith, length-take-le, length-drop, take-append-drop}
 use Rattle.dn_name.specs.Name.{Labels}
 use Rattle.dn_name.specs.Spelled.{Spelled}
 use Rattle.dn_rdata.specs.Laid.{Laid, Stands}
@@ -143,7 +143,7 @@ module _ (message : List ℕ) (at : ℕ) (head : RecordHead) (place : ℕ) (is_h
   passes_one next within room next_is =
       let len_is : length data_of ≡ head.len = length-take-le head.len (drop place message) (omega (arith, length-drop place message)) in
       let standing : Stands message place data_of next =
-          stands message place next data_of (drop head.len (drop place message)) (sym (take-append-drop head.len (drop place message))) (omega (arith, len_is, next_is)) in
+      stands message place next data_of (drop head.len (drop place message)) (sym (take-append-drop head.len (drop place message))) (omega (arith, len_is, next_is)) in
       record {
         row = row_of;
         is = record {

@@ -10,14 +10,14 @@ use Rattle.dn_message.specs.ReplyReading.{AreSections, IsReplyHeader}
 
 -- ---- the header and the sections of a reply
 
-abbrev header_of : (message : List ℕ) (reply : Reply) → IsReply message reply → ReplyHeader
+abbrev pub header_of : (message : List ℕ) (reply : Reply) → IsReply message reply → ReplyHeader
 header_of message reply is = record {
   id = reply.id;
   flags = is.flags;
   counts = record { questions = length reply.questions; answer = length reply.answer; authority = length reply.authority; additional = length reply.additional };
 }
 
-abbrev sections_of : Reply → Sections
+abbrev pub sections_of : Reply → Sections
 sections_of reply = record { questions = reply.questions; answer = reply.answer; authority = reply.authority; additional = reply.additional }
 
 pub header_in : (message : List ℕ) (reply : Reply) (is : IsReply message reply) → IsReplyHeader message (header_of message reply is)
@@ -32,7 +32,7 @@ header_in message reply is = record {
   };
 }
 
-sections_in : (message : List ℕ) (reply : Reply) (is : IsReply message reply) → AreSections message (header_of message reply is).counts (sections_of reply)
+pub sections_in : (message : List ℕ) (reply : Reply) (is : IsReply message reply) → AreSections message (header_of message reply is).counts (sections_of reply)
 sections_in message reply is = record {
   answer_at = is.answer_at;
   authority_at = is.authority_at;

@@ -1,5 +1,5 @@
 -- What lies in a message ends inside it.
-use Rattle.std.proofs.Common.{◌≡◌, ℕ, ◌+◌, ◌-◌, ◌≤◌, List, [], ◌∷◌, ◌++◌, length, drop, ap, arith, length-append, length-drop}
+use Rattle.std.proofs.Common.{ℕ, ◌≤◌, List, [], ◌∷◌, length, drop, ap, arith, length-append, length-drop}
 use Rattle.dn_name.specs.Name.{Labels}
 use Rattle.dn_name.specs.Spelled.{Segment, Ends, Goes, Leads}
 use Rattle.dn_rdata.specs.Laid.{Laid, Lies, Stands}

@@ -3,6 +3,7 @@ pub mod Fields
 pub mod Header
 pub mod Kind
 pub mod Pieces
+pub mod Laws
 pub mod Query
 pub mod QueryOf
 pub mod Reading

@@ -1,8 +1,6 @@
-use Rattle.std.proofs.Common.{◌≡◌, ◌+◌, ◌-◌, ℕ, List, arith, subst, sym}
+use Rattle.std.proofs.Common.{◌≡◌, ◌+◌, ◌-◌, arith, subst, sym}
 use Rattle.std.proofs.lemmas.Result.{err_from_is_err_and}
-use Rattle.dn_message.specs.declared.reply.Question.{Question}
 use Rattle.dn_message.specs.Reply.{IsQuestion}
-use Rattle.dn_message.specs.ReplyReading.{AreEntries}
 use Rattle.dn_message.proofs.EntryLemmas.{Completing, all_read, none_read, one_read}
 use Rattle.dn_message.proofs.questions.read_questions.Goals as goal
 
