@@ -1,17 +1,16 @@
 -- Each command that words are is a proper one.
-use Rattle.std.proofs.Common.{◌≡◌, ◌≤◌, ℕ, true, false, nat_eq, codes, List, [], ◌∷◌, Option, None, Some, refl}
-use Rattle.dn_io.specs.Options.{◌>>=◌}
+use Rattle.std.proofs.Common.{◌≡◌, ◌≤◌, ℕ, true, codes, List, [], ◌∷◌, None, Some, refl}
 use Rattle.dn_rdata.specs.Types.{A, answerable}
+use Rattle.dn_rdata.proofs.CallerLemmas.{address_data}
 use Rattle.dn_zone.specs.declared.event.AdminCmd.{AdminCmd}
 use Rattle.dn_zone.specs.declared.event.AdminCmd.TheVariants.{Add, AgingOn, AgingOff, NoRefresh, Refresh}
 use Rattle.dn_zone.specs.Valid.{IsProperCommand, interval_limit}
 use Rattle.dn_text.specs.Addresses.{address_of}
 use Rattle.dn_text.specs.Names.{name_word}
 use Rattle.dn_text.specs.Numbers.{number_within}
-use Rattle.dn_text.specs.Types.{is_type_a}
 use Rattle.dn_text.specs.Words.{is_word}
-use Rattle.dn_text.proofs.CallerLemmas.{bound, chosen, given_is, name_is_name, number_is_within}
-use Rattle.dn_admin.specs.Command.{add_of, address_command, aging_of, command_of, hour_words, interval_command, interval_named, interval_of}
+use Rattle.dn_text.proofs.CallerLemmas.{address_is_four, bound, chosen, given_is, name_is_name, number_is_within}
+use Rattle.dn_admin.specs.Command.{add_of, address_command, aging_of, command_of, interval_command, interval_named, interval_of}
 
 a_is_answered : answerable A ≡ true
 unfolding answerable
@@ -23,7 +22,9 @@ proper_address name ttl address hour =
     bound IsProperCommand (name_word name) _
     (λ its_name named. bound IsProperCommand (number_within 4294967295 ttl) _
     (λ its_ttl within. bound IsProperCommand (address_of address) _
-    (λ rdata there cmd is. given_is IsProperCommand (Add its_name its_ttl A rdata hour) cmd (name_is_name name its_name named, a_is_answered, refl) is)))
+    (λ rdata there cmd is.
+    given_is IsProperCommand (Add its_name its_ttl A rdata hour) cmd
+    (name_is_name name its_name named, a_is_answered, refl, address_data rdata (address_is_four address rdata there)) is)))
 
 proper_add : (words : List (List ℕ)) (cmd : AdminCmd) → add_of words ≡ Some cmd → IsProperCommand cmd
 unfolding add_of

@@ -16,9 +16,9 @@ use Rattle.dn_store.specs.declared.unit.UnitValue.{UnitValue}
 use Rattle.dn_store.specs.declared.unit.UnitValue.TheVariants.{Live, Tombstone, Gone}
 use Rattle.dn_store.specs.declared.unit.UnitValue.TheVariants as values
 use Rattle.dn_store.specs.Table.{is_above}
-use Rattle.dn_store.specs.Valid.{IsValidUnit, IsValidWrite}
+use Rattle.dn_store.specs.Valid.{HasData, IsValidUnit, IsValidWrite}
 use Rattle.dn_store.specs.Value.{unit_ok}
-use Rattle.dn_store.proofs.CallerLemmas.{IsNode, all_both, all_filter, all_map, all_passes, all_take, node_ok, node_parts, rows_kept}
+use Rattle.dn_store.proofs.CallerLemmas.{HasOwnData, IsNode, all_both, all_filter, all_map, all_passes, all_take, node_has, node_ok, node_parts, rows_kept}
 use Rattle.dn_pass.specs.Pass.{becomes, fresh_rows, is_at_last, is_stale_row, is_swept, is_wanted, looked_at, sweep, swept}
 use Rattle.dn_pass.proofs.StepWrites.{fits_swept}
 
@@ -40,6 +40,17 @@ becomes_ok apex rules ticks (keys.Node name) (Live rows) ok =
 becomes_ok apex rules ticks (keys.Node name) (Tombstone since) ok = ok
 becomes_ok apex rules ticks (keys.Node name) Gone ok = ok
 
+-- records that stay have their data as before
+fresh_have : (rules : ZoneRules) (hour : ℕ) (rows : List Record) → AllByRecursion HasOwnData rows → AllByRecursion HasOwnData (fresh_rows rules hour rows)
+unfolding fresh_rows
+fresh_have rules hour rows have = all_filter HasOwnData (λ row. not (is_stale_row rules hour row)) rows have
+
+becomes_has : (rules : ZoneRules) (ticks : ℕ) (value : UnitValue) → HasData value → HasData (becomes rules ticks value)
+becomes_has rules ticks (values.Props list) has = tt
+becomes_has rules ticks (Live rows) has = node_has (fresh_rows rules (hour_of ticks) rows) ticks (fresh_have rules (hour_of ticks) rows has)
+becomes_has rules ticks (Tombstone since) has = tt
+becomes_has rules ticks Gone has = tt
+
 -- the version behind one that isn't the last is one that is given
 next_version : (stamp : Stamp) → is_last stamp ≡ false → IsVersion (stamp.version + 1)
 next_version stamp more =
@@ -49,6 +60,7 @@ one_valid : (apex : Labels) (rules : ZoneRules) (ticks : ℕ) (id : ReplicaId) (
 unfolding swept is_swept
 one_valid apex rules ticks id unit valid is = record {
   allowed = becomes_ok apex rules ticks unit.key unit.value valid.allowed;
+  records = becomes_has rules ticks unit.value valid.records;
   fitting = fits_swept rules ticks id unit valid.fitting;
   version = next_version unit.stamp (not-true (is_at_last unit) (and_parts (is_wanted rules ticks unit.value) (not (is_at_last unit)) is).1);
 }

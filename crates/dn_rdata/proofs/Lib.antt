@@ -1,6 +1,7 @@
 pub mod CallerLemmas
 pub mod FoldedLemmas
 pub mod LaidLemmas
+pub mod MadeData
 pub mod PartLemmas
 pub mod RowOrderLemmas
 pub mod TableLemmas

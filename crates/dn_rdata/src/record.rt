@@ -1,4 +1,5 @@
 ghost use Rattle.std.specs.Prelude.{◌≡◌, IfOk};
+ghost use Rattle.dn_rdata.specs.Layout.{IsData};
 ghost use Rattle.dn_rdata.specs.Record.{made};
 
 use dn_io::{Duplicate, List, OutOfMemory};
@@ -25,11 +26,29 @@ pub struct Record {
 }
 
 impl Record {
-    /// A record as a server makes it: rank 240, serial 1, flags and reserved field 0.
+    /// A record as a server makes it: rank 240, serial 1, flags and reserved field 0. The data are valid for their type, as
+    /// [`check_rdata`](crate::check_rdata) tells.
     ///
     /// # Errors
     /// `OutOfMemory`.
     pub fn make(
+        alloc: Global,
+        rtype: u16,
+        ttl: u32,
+        hour: u32,
+        rdata: &[u8],
+    ) -> Result<Record, OutOfMemory>
+        requires { IsData rtype rdata.now }
+        ensures { IfOk result (λ row. row ≡ made rtype ttl hour rdata.now) }
+    {
+        Record::with_any_data(alloc, rtype, ttl, hour, rdata)
+    }
+
+    /// The same of any bytes as data, for a caller that doesn't know them to be valid.
+    ///
+    /// # Errors
+    /// `OutOfMemory`.
+    pub fn with_any_data(
         alloc: Global,
         rtype: u16,
         ttl: u32,

@@ -1,5 +1,5 @@
 ghost use Rattle.std.specs.Prelude.{◌≡◌, ◌≤◌, ◌++◌, length, OnOk};
-ghost use Rattle.dn_name.specs.Name.{wire_of};
+ghost use Rattle.dn_name.specs.Name.{IsName, wire_of};
 
 use dn_io::{List, OutOfMemory};
 use dn_name::{Name, NoRoom};
@@ -8,6 +8,7 @@ use dn_name::{Name, NoRoom};
 pub fn push_wire(out: &mut List<u8>, name: &Name) -> Result<(), OutOfMemory>
     ensures bytes { OnOk result (out.new ≡ out.old ++ wire_of name.now) }
     ensures most { length (wire_of name.now) ≤ 255 }
+    ensures named { IsName name.now }
 {
     let mut wire = [0u8; 255];
     let len = name.wire_len();

@@ -2,6 +2,7 @@
 pub use Rattle.dn_store.proofs.AboveLemmas.{AllAbove, above_at, above_behind, above_first, above_next, above_none, above_own, behind, looked_more, not_above}
 pub use Rattle.dn_store.proofs.AheadLemmas.{AreThere, Here, ahead, ahead_taken, all_here}
 pub use Rattle.dn_store.proofs.CountLemmas.{count_cons, count_mono, count_none, either, none_counted, ones, ones_mono, past}
+pub use Rattle.dn_store.proofs.DataLemmas.{HasOwnData, node_has, rows_at_have, rows_have, units_have}
 pub use Rattle.dn_store.proofs.FoundLemmas.{IsFoundBy, found_all, key_at}
 pub use Rattle.dn_store.proofs.ListLemmas.{all_both, all_filter, all_join, all_map, all_of, all_passes, all_take, all_then, filter_all, filter_within, sorted_take, take_next, take_over}
 pub use Rattle.dn_store.proofs.LoweredLemmas.{lower_lowered, same_lower}

@@ -3,6 +3,7 @@ pub mod AheadLemmas
 pub mod ByNumberLemmas
 pub mod CallerLemmas
 pub mod CountLemmas
+pub mod DataLemmas
 pub mod FoundLemmas
 pub mod FrontLemmas
 pub mod GrowingLemmas

@@ -1,4 +1,6 @@
-use crate::fixtures::{TXT, check_bytes, is_on_wire, list_of, name, node, put_one, put_record};
+use crate::fixtures::{
+    TXT, check_bytes, is_on_wire, list_of, name, node, put_one, put_record, record, zeros,
+};
 use dn_answer::{AnswerValue, Rcode, Rr, answer, refused};
 use dn_io::List;
 use dn_rdata::{A, AAAA, ANY, AXFR, CNAME, MX, NS, Record, SOA};
@@ -29,7 +31,7 @@ fn put_row(
     rtype: u16,
     rdata: &[u8],
 ) -> Table {
-    let row = Record::make(alloc, rtype, 7200, 0, rdata).expect(rt, "memory");
+    let row = record(rt, alloc, rtype, 7200, 0, rdata);
     put_record(rt, alloc, table, owner, row)
 }
 
@@ -314,13 +316,14 @@ fn rows_of_a_referral(rt: HostRuntime) {
 
 /// The zone x. with nothing but this SOA.
 fn started(rt: &impl Abort, alloc: Global, ttl: u32, rdata: &[u8]) -> Table {
-    let row = Record::make(alloc, SOA, ttl, 0, rdata).expect(rt, "memory");
+    let row = record(rt, alloc, SOA, ttl, 0, rdata);
     put_record(rt, alloc, &empty(rt, alloc), "x", row)
 }
 
-/// An SOA of this data is answered with that data.
+/// An SOA of this data, which aren't valid, is answered with that data.
 fn check_start(rt: &impl Abort, alloc: Global, rdata: &[u8], answered: &[u8]) {
-    let table = started(rt, alloc, 7200, rdata);
+    let row = Record::with_any_data(alloc, SOA, 7200, 0, rdata).expect(rt, "memory");
+    let table = put_record(rt, alloc, &empty(rt, alloc), "x", row);
     let found = ask(rt, alloc, &table, "x", SOA);
     check_answer(rt, &found, 0, b"\x01x\0", SOA, answered);
 }
@@ -367,17 +370,14 @@ fn a_missing_name_is_remembered_for_the_lesser_time(rt: HostRuntime) {
     }
 }
 
-/// The zone x. with its SOA and a text of so many bytes.
+/// The zone x. with its SOA and so many texts without bytes in one record.
 fn with_text(rt: &impl Abort, alloc: Global, owner: &str, len: usize) -> Table {
-    let mut text = List::new(alloc);
-    for _ in 0..len {
-        text.push(b'x').expect(rt, "memory");
-    }
+    let text = zeros(rt, alloc, len);
     let start = started(rt, alloc, 7200, START);
-    put_row(rt, alloc, &start, owner, TXT, text.as_slice())
+    put_row(rt, alloc, &start, owner, TXT, &text)
 }
 
-/// Of a text of so many bytes the reply is cut or not, and has so many rows.
+/// Of a text record of so many bytes the reply is cut or not, and has so many rows.
 fn check_cut(
     rt: &impl Abort,
     alloc: Global,

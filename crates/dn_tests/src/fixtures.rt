@@ -3,7 +3,7 @@
 use dn_io::{List, Moment};
 use dn_name::Name;
 use dn_property::Property;
-use dn_rdata::Record;
+use dn_rdata::{Record, check_rdata};
 use dn_stamp::{ReplicaId, Stamp};
 use dn_store::{Table, UnitKey, UnitValue, Write, fits, rows_at};
 use std::alloc::Global;
@@ -65,11 +65,24 @@ pub fn zeros(rt: &impl Abort, alloc: Global, len: usize) -> Vec<u8> {
     vec![in alloc; 0; len].expect(rt, "memory")
 }
 
+/// The record of this type, time to live, hour and data, which are valid for the type.
+pub fn record(
+    rt: &impl Abort,
+    alloc: Global,
+    rtype: u16,
+    ttl: u32,
+    hour: u32,
+    rdata: &[u8],
+) -> Record {
+    assert!(rt; check_rdata(rtype, rdata).is_ok(), "data of type {rtype}");
+    Record::make(alloc, rtype, ttl, hour, rdata).expect(rt, "memory")
+}
+
 /// The records of these types, hours and data, each with a time to live of 300 seconds.
 pub fn live(rt: &impl Abort, alloc: Global, rows: &[(u16, u32, &[u8])]) -> UnitValue {
     let mut list = List::new(alloc);
     for (rtype, hour, rdata) in rows {
-        list.push(Record::make(alloc, *rtype, 300, *hour, rdata).expect(rt, "memory"))
+        list.push(record(rt, alloc, *rtype, 300, *hour, rdata))
             .expect(rt, "memory");
     }
     UnitValue::Live(list)

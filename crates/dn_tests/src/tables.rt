@@ -407,14 +407,15 @@ fn values_that_never_stand(rt: HostRuntime) {
 
 #[test]
 fn records_that_stand(rt: HostRuntime) {
-    for (owner, rtype, hour, fine) in [
-        ("a.x", A, 5, true),
-        ("a.x", 0, 0, false),
-        ("a.x", SOA, 0, false),
-        ("x", SOA, 0, true),
-        ("x", SOA, 1, false),
-    ] {
-        check_rows(&rt, rt.alloc(), owner, &[(rtype, hour, START)], fine);
+    let cases: [(&str, u16, u32, &[u8], bool); 5] = [
+        ("a.x", A, 5, b"1234", true),
+        ("a.x", 0, 0, b"12345678", false),
+        ("a.x", SOA, 0, START, false),
+        ("x", SOA, 0, START, true),
+        ("x", SOA, 1, START, false),
+    ];
+    for (owner, rtype, hour, rdata, fine) in cases {
+        check_rows(&rt, rt.alloc(), owner, &[(rtype, hour, rdata)], fine);
     }
 }
 

@@ -1,5 +1,5 @@
 use crate::fixtures::{
-    LAST_VERSION, OWN, TXT, check_bytes, list_of, live, moment, node, put_version, zeros,
+    LAST_VERSION, OWN, TXT, check_bytes, list_of, live, moment, node, put_version, record, zeros,
 };
 use dn_io::List;
 use dn_rdata::{A, AAAA, CNAME, MX, Record};
@@ -52,7 +52,7 @@ fn check_added(
     want: &str,
 ) {
     let (rtype, ttl, hour) = numbers;
-    let row = Record::make(alloc, rtype, ttl, hour, rdata.as_bytes()).expect(rt, "memory");
+    let row = record(rt, alloc, rtype, ttl, hour, rdata.as_bytes());
     let after = added(rt, alloc, row, rows);
     check_bytes(rt, after.as_slice(), want.as_bytes(), rdata);
 }

@@ -1,7 +1,9 @@
 ghost use Rattle.std.specs.Prelude.{◌≡◌};
 ghost use Rattle.dn_stamp.specs.declared.join.Stamped as values;
 
-use crate::fixtures::{LAST_VERSION, TXT, check_bytes, crosses, list_of, name, name_on_wire};
+use crate::fixtures::{
+    LAST_VERSION, TXT, check_bytes, crosses, list_of, name, name_on_wire, record,
+};
 use dn_io::{Duplicate, List};
 use dn_property::{Property, ZoneRules, is_due, is_stale, refresh_allowed, rules_of};
 use dn_rdata::{
@@ -306,7 +308,7 @@ fn check_record(rt: &impl Abort, row: &Record) {
 
 #[test]
 fn a_record_and_its_copy(rt: HostRuntime) {
-    let row = Record::make(rt.alloc(), A, 300, 9, b"1234").expect(&rt, "memory");
+    let row = record(&rt, rt.alloc(), A, 300, 9, b"1234");
     let copy = row.copy(rt.alloc()).expect(&rt, "memory");
     check_record(&rt, &row);
     check_record(&rt, &copy);
@@ -367,7 +369,7 @@ fn types_without_names_in_their_data(rt: HostRuntime) {
 fn records_of(rt: &impl Abort, alloc: Global, data: &[(u16, &[u8])]) -> List<Record> {
     let mut rows = List::new(alloc);
     for (rtype, rdata) in data {
-        rows.push(Record::make(alloc, *rtype, 300, 0, rdata).expect(rt, "memory"))
+        rows.push(record(rt, alloc, *rtype, 300, 0, rdata))
             .expect(rt, "memory");
     }
     rows
@@ -384,18 +386,19 @@ fn check_place(rt: &impl Abort, rows: &[Record], place: usize, row: &Record) {
     }
 }
 
-/// Each record stands before the next. Letters in names count in lower case, other bytes as they are.
+/// Each record stands before the next. Letters in names count in lower case, other bytes as they are. Data of type 49 are
+/// any bytes.
 #[test]
 fn the_order_of_records(rt: HostRuntime) {
     let data: [(u16, &[u8]); 8] = [
-        (A, b"1234"),
-        (A, b"12345"),
-        (A, b"1235"),
         (NS, b"\x01n\0"),
         (NS, b"\x01O\0"),
         (MX, b"\0N\x01b\0"),
         (MX, b"\0n\x01A\0"),
         (MX, b"\0n\x01b\0"),
+        (49, b"1234"),
+        (49, b"12345"),
+        (49, b"1235"),
     ];
     let rows = records_of(&rt, rt.alloc(), &data);
     for (place, row) in rows.as_slice().iter().enumerate() {
@@ -405,14 +408,14 @@ fn the_order_of_records(rt: HostRuntime) {
 
 #[test]
 fn records_that_are_one_in_the_order(rt: HostRuntime) {
-    let lower = Record::make(rt.alloc(), NS, 300, 0, b"\x01n\0").expect(&rt, "memory");
-    let upper = Record::make(rt.alloc(), NS, 60, 7, b"\x01N\0").expect(&rt, "memory");
+    let lower = record(&rt, rt.alloc(), NS, 300, 0, b"\x01n\0");
+    let upper = record(&rt, rt.alloc(), NS, 60, 7, b"\x01N\0");
     assert_eq!(rt; compare_rows(&lower, &upper), Ordering::Equal);
 }
 
-/// The data of a record lead to this name, or to none.
+/// The data of a record, valid or not, lead to this name, or to none.
 fn check_target(rt: &impl Abort, alloc: Global, rtype: u16, rdata: &[u8], want: &str) {
-    let row = Record::make(alloc, rtype, 300, 0, rdata).expect(rt, "memory");
+    let row = Record::with_any_data(alloc, rtype, 300, 0, rdata).expect(rt, "memory");
     let same = match target_of(&row) {
         Some(found) => found.same(&name(rt, want)),
         None => want == "none",

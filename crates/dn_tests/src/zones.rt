@@ -166,16 +166,21 @@ fn a_zone_that_is_to_be_copied(rt: HostRuntime) {
     check_table(&rt, zone.table(), 0, 0);
 }
 
-/// A command at the moment, which adds an address at a name.
-fn add(rt: &impl Abort, alloc: Global, text: &str, rdata: &[u8]) -> Event {
+/// A command at the moment, which adds a record of a type at a name.
+fn add_of(rt: &impl Abort, alloc: Global, text: &str, rtype: u16, rdata: &[u8]) -> Event {
     let cmd = AdminCmd::Add {
         name: name(rt, text),
         ttl: 300,
-        rtype: A,
+        rtype,
         rdata: list_of(rt, alloc, rdata),
         hour: 0,
     };
     set(rt, cmd)
+}
+
+/// A command at the moment, which adds an address at a name.
+fn add(rt: &impl Abort, alloc: Global, text: &str, rdata: &[u8]) -> Event {
+    add_of(rt, alloc, text, A, rdata)
 }
 
 /// A command at the moment.
@@ -217,21 +222,21 @@ fn check_add(
     assert_eq!(rt; zone.table().top(), 3);
 }
 
-/// Adds an address, the same again, one outside of the zone and one that is too large.
+/// The zone refuses a text that is too large.
+fn check_too_large(rt: &impl Abort, alloc: Global, zone: &mut Zone) {
+    let large = zeros(rt, alloc, 60_000);
+    let event = add_of(rt, alloc, "h.x", TXT, &large);
+    check_answer(rt, alloc, zone, &event, Answer::Refused(Limit::NodeSize));
+    assert_eq!(rt; zone.table().top(), 3);
+}
+
+/// Adds an address, the same again, one outside of the zone and a text that is too large.
 fn check_adds(rt: &impl Abort, alloc: Global, zone: &mut Zone) {
     let outside = Answer::Admin(AdminDone::NotInZone);
     for (text, want) in [("H.x", WRITTEN), ("h.X", UNCHANGED), ("h.y", outside)] {
         check_add(rt, alloc, zone, text, b"1234", want);
     }
-    let large = zeros(rt, alloc, 60_000);
-    check_add(
-        rt,
-        alloc,
-        zone,
-        "h.x",
-        &large,
-        Answer::Refused(Limit::NodeSize),
-    );
+    check_too_large(rt, alloc, zone);
 }
 
 /// Turns aging on, from change count 3 to 4.

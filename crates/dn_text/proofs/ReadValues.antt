@@ -1,12 +1,13 @@
--- What a word that was read is: a name, a number within its bound.
-use Rattle.std.proofs.Common.{◌≡◌, ℕ, ◌≤◌, Bool, true, false, cond, ◌&&◌, List, [], ◌∷◌, nat_eq, nat_le, Option, None, Some, refl, subst, arith}
-use Rattle.std.proofs.lemmas.Bool.{and_parts, leb-true}
-use Rattle.std.specs.List.{AllByRecursion, list_all}
+-- What a word that was read is: a name, a number within its bound, an address of four bytes.
+use Rattle.std.proofs.Common.{◌≡◌, ℕ, ◌≤◌, Bool, true, false, cond, ◌&&◌, List, [], ◌∷◌, length, nat_eq, nat_le, Option, None, Some, refl, subst, ◌∙◌, arith}
+use Rattle.std.proofs.lemmas.Bool.{and_parts, eqb-true, leb-true}
+use Rattle.std.specs.List.{AllByRecursion, list_all, slice_split}
 use Rattle.std.specs.Option.{option_and_then}
 use lib.Pointwise.{pointwise}
 use Rattle.dn_io.specs.Options.{◌>>=◌}
 use Rattle.dn_name.specs.Name.{IsLabel, IsName, Labels, is_label, is_name, wire_len}
-use Rattle.dn_name.specs.Text.{Outside, Symbol, labels_between, name_if, name_of_text, symbols_from, without_last_empty}
+use Rattle.dn_name.specs.Text.{Outside, Symbol, labels_between, name_if, symbols_from, without_last_empty}
+use Rattle.dn_text.specs.Addresses.{address_of, all_within}
 use Rattle.dn_text.specs.Names.{name_word}
 use Rattle.dn_text.specs.Numbers.{is_digit, no_leading_zero, number_within, value_behind}
 
@@ -78,3 +79,25 @@ pub number_is_within : (most : ℕ) (word : List ℕ) (number : ℕ) → number_
 unfolding number_within
 number_is_within most word number is =
     within_by most (value_behind 0 word) number (list_all is_digit word && no_leading_zero word) (nat_le (value_behind 0 word) most) refl is
+
+-- ---- addresses
+
+-- where each word is a number, there are as many numbers
+as_many : (most : ℕ) (words : List (List ℕ)) (numbers : List ℕ) → all_within most words ≡ Some numbers → length numbers ≡ length words
+unfolding all_within
+as_many most [] numbers is = given_is (λ (it : List ℕ). length it ≡ 0) [] numbers refl is
+as_many most (word ∷ words) numbers is =
+    let Many : List ℕ → Type 0 = λ it. length it ≡ length (word ∷ words) in
+    bound Many (number_within most word) _
+    (λ first there. bound Many (all_within most words) _
+    (λ rest read all given. given_is Many (first ∷ rest) all (omega (arith, as_many most words rest read)) given)) numbers is
+
+four_by : (four : Bool) (parts : List (List ℕ)) (address : List ℕ) → nat_eq (length parts) 4 ≡ four → cond four (all_within 255 parts) None ≡ Some address → length address ≡ 4
+four_by true parts address is given = as_many 255 parts address given ∙ eqb-true (length parts) 4 is
+four_by false parts address is given = absurd (cc)
+
+-- an address that is read has four bytes
+pub address_is_four : (word address : List ℕ) → address_of word ≡ Some address → length address ≡ 4
+unfolding address_of
+address_is_four word address is =
+    let parts : List (List ℕ) = slice_split (λ byte. nat_eq byte 46) word in four_by (nat_eq (length parts) 4) parts address refl is

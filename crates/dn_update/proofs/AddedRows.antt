@@ -9,7 +9,7 @@ use Rattle.dn_rdata.specs.declared.record.Record.{Record}
 use Rattle.dn_rdata.specs.Record.{data_order}
 use Rattle.dn_rdata.specs.Types.{SOA}
 use Rattle.dn_store.specs.Value.{is_soa, row_ok, rows_grow, soas}
-use Rattle.dn_store.proofs.CallerLemmas.{AreRows, RowAfter, RowsGrow, all_then, by_order, grow_sorted, one_soa, row_total, rows_kept, soas_more, sorted_grow}
+use Rattle.dn_store.proofs.CallerLemmas.{AreRows, RowAfter, RowsGrow, all_filter, all_then, by_order, grow_sorted, one_soa, row_total, rows_kept, soas_more, sorted_grow}
 use Rattle.dn_update.specs.Node.{bars, has_data_of, is_alias, is_there_as, placed_row, with_added, without_aliases}
 
 -- ---- a record in its place
@@ -86,3 +86,11 @@ added_rows at_apex row rows grow each one ok other =
     each_case (AreRows at_apex) (list_any (bars row) rows) (is_alias row && list_any (λ next. not (has_data_of row next)) rows) (list_any (is_there_as row) rows)
     rows (placed_row row (without_aliases rows)) rows (placed_row row rows)
     are (are_placed at_apex row (without_aliases rows) ok other fewer) are (are_placed at_apex row rows ok other are)
+
+-- what holds of the record that is added and of each before holds of each behind
+pub added_all : (P : Record → Type 0) (row : Record) (rows : List Record) → P row → AllByRecursion P rows → AllByRecursion P (with_added row rows)
+unfolding with_added
+added_all P row rows holds all =
+    let fewer : AllByRecursion P (without_aliases rows) = all_filter P (λ one. not (is_alias one)) rows all in
+    each_case (AllByRecursion P) (list_any (bars row) rows) (is_alias row && list_any (λ next. not (has_data_of row next)) rows) (list_any (is_there_as row) rows)
+    rows (placed_row row (without_aliases rows)) rows (placed_row row rows) all (all_placed P row (without_aliases rows) holds fewer) all (all_placed P row rows holds all)

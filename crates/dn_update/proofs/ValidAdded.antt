@@ -1,4 +1,4 @@
--- What is to be written where a record is added may stand in the zone, where its units are valid.
+-- What is to be written where a record with data of its type is added may stand in the zone, where its units are valid.
 use Rattle.std.proofs.Common.{◌≡◌, ℕ, Bool, true, false, not, ◌&&◌, ◌||◌, List, [], ◌∷◌, Option, None, Some, nat_eq, refl, ap, subst, ◌∙◌}
 use Rattle.std.proofs.lemmas.Bool.{and_from, cond_both, eqb-true, false_from_ne_true, false≢true, not_from_false}
 use Rattle.std.specs.List.{AllByRecursion}
@@ -6,6 +6,7 @@ use Rattle.std.specs.Ordering.{is_eq}
 use lib.Pointwise.{pointwise}
 use Rattle.dn_name.specs.Name.{Labels, is_same, is_under, lowered}
 use Rattle.dn_rdata.specs.declared.record.Record.{Record}
+use Rattle.dn_rdata.specs.Layout.{IsData}
 use Rattle.dn_rdata.specs.Types.{SOA, answerable}
 use Rattle.dn_store.specs.declared.unit.Unit as units
 use Rattle.dn_store.specs.declared.unit.UnitKey.{UnitKey}
@@ -17,11 +18,12 @@ use Rattle.dn_store.specs.Contents.{node_value, rows_at, rows_in, rows_of_unit}
 use Rattle.dn_store.specs.Table.{unit_at}
 use Rattle.dn_store.specs.Valid.{IsValidUnit}
 use Rattle.dn_store.specs.Value.{key_order, row_ok, unit_ok}
-use Rattle.dn_store.proofs.CallerLemmas.{AreRows, key_at, lower_lowered, node_ok, node_parts, valid_at}
+use Rattle.dn_store.proofs.CallerLemmas.{AreRows, HasOwnData, key_at, lower_lowered, node_has, node_ok, node_parts, rows_at_have, valid_at}
 use Rattle.dn_update.specs.Node.{is_same_set, with_added}
 use Rattle.dn_update.specs.Writes.{Wanted, node_change}
-use Rattle.dn_update.proofs.AddedRows.{added_rows}
+use Rattle.dn_update.proofs.AddedRows.{added_all, added_rows}
 use Rattle.dn_update.proofs.NameLemmas.{lowered_under, order_same}
+use Rattle.dn_update.proofs.ValidWritten.{IsAllowed}
 
 -- ---- the records of a node that is there
 
@@ -69,25 +71,23 @@ row_allowed at_apex row known other =
 
 -- ---- what is to be written
 
-abbrev IsAllowed : Labels → Wanted → Type 0
-IsAllowed apex one = unit_ok apex one.key one.value ≡ true
-
-change_allowed : (apex : Labels) (key : UnitKey) (before after : List Record) (ticks : ℕ) → unit_ok apex key (node_value after ticks) ≡ true
+change_allowed : (apex : Labels) (key : UnitKey) (before after : List Record) (ticks : ℕ) → unit_ok apex key (node_value after ticks) ≡ true → AllByRecursion HasOwnData after
     → AllByRecursion (IsAllowed apex) (node_change key before after ticks)
 unfolding node_change
-change_allowed apex key before after ticks ok =
+change_allowed apex key before after ticks ok have =
     let wanted : List Wanted = record { key = key; value = node_value after ticks } ∷ [] in
-    cond_both (is_same_set before after) [] wanted (AllByRecursion (IsAllowed apex)) (λ is. tt) (λ is. (ok, tt))
+    cond_both (is_same_set before after) [] wanted (AllByRecursion (IsAllowed apex)) (λ is. tt) (λ is. ((ok, node_has after ticks have), tt))
 
 pub add_allowed : (apex name : Labels) (row : Record) (list : List units.Unit) (ticks : ℕ) → is_under name apex ≡ true → answerable row.rtype ≡ true → nat_eq row.rtype SOA ≡ false
-    → AllByRecursion (IsValidUnit apex) list
-    → AllByRecursion (λ one. unit_ok apex one.key one.value ≡ true)
+    → IsData row.rtype row.rdata → AllByRecursion (IsValidUnit apex) list
+    → AllByRecursion (IsAllowed apex)
     (node_change (keys.Node (lowered name)) (rows_at (keys.Node (lowered name)) list) (with_added row (rows_at (keys.Node (lowered name)) list)) ticks)
-add_allowed apex name row list ticks under known other valid =
+add_allowed apex name row list ticks under known other has valid =
     let lower : Labels = lowered name in
     let at_apex : Bool = is_same lower apex in
     let before : List Record = rows_at (keys.Node lower) list in
     let are : AreRows at_apex before = rows_there apex lower list valid in
     let good : AreRows at_apex (with_added row before) = added_rows at_apex row before are.0 are.1 are.2 (row_allowed at_apex row known other) other in
+    let have : AllByRecursion HasOwnData (with_added row before) = added_all HasOwnData row before has (rows_at_have apex (keys.Node lower) list valid) in
     change_allowed apex (keys.Node lower) before (with_added row before) ticks
-    (node_ok apex lower (with_added row before) ticks (record { under = lowered_under name apex ∙ under; lower = lower_lowered name; good = good }))
+    (node_ok apex lower (with_added row before) ticks (record { under = lowered_under name apex ∙ under; lower = lower_lowered name; good = good })) have

@@ -1,4 +1,5 @@
--- Values that may stand in the zone are written as valid writes, and what was written leaves a valid table.
+-- Values that may stand in the zone, with records of valid data, are written as valid writes, and what was written leaves a
+-- valid table.
 use Rattle.std.proofs.Common.{◌≡◌, ℕ, ◌+◌, ◌<◌, ◌≤◌, Bool, true, false, cond, List, [], ◌∷◌, Option, None, Some, length, nat_lt, refl, ap, arith, subst, unwrap_or}
 use Rattle.std.proofs.lemmas.Bool.{and_parts, false≢true, ltb-false, ltb-true}
 use Rattle.std.specs.List.{AllByRecursion, list_all}
@@ -14,13 +15,14 @@ use Rattle.dn_store.specs.declared.unit.Unit as units
 use Rattle.dn_store.specs.declared.unit.UnitKey.{UnitKey}
 use Rattle.dn_store.specs.declared.unit.Write.{Write}
 use Rattle.dn_store.specs.Table.{IsTable, TableState, change_limit, unit_at}
-use Rattle.dn_store.specs.Valid.{IsValidUnit, IsValidWrite}
+use Rattle.dn_store.specs.Valid.{HasData, IsValidUnit, IsValidWrite}
 use Rattle.dn_store.specs.Value.{fits, unit_ok}
 use Rattle.dn_store.proofs.CallerLemmas.{all_then, table_taken, valid_taken}
 use Rattle.dn_update.specs.Writes.{Outcome, Wanted, stamp_behind, stamp_for, stamped, when_stamped, with_writes, write_under, written}
 
-abbrev IsAllowed : Labels → Wanted → Type 0
-IsAllowed apex one = unit_ok apex one.key one.value ≡ true
+-- the value may stand under its key, and the data of its records are valid for their types
+abbrev pub IsAllowed : Labels → Wanted → Type 0
+IsAllowed apex one = (unit_ok apex one.key one.value ≡ true) × HasData one.value
 
 -- ---- stamps
 
@@ -50,7 +52,7 @@ unfolding stamp_for
 stamp_version key list id seconds stamp is = behind_version (unit_at key list) id seconds stamp is
 
 pub stamped_valid : (apex : Labels) (list : List units.Unit) (id : ReplicaId) (seconds : ℕ) (wanted : List Wanted) (writes : List Write) → list_all (λ one. fits one.value) wanted ≡ true
-    → AllByRecursion (λ one. unit_ok apex one.key one.value ≡ true) wanted → AllByRecursion (IsValidUnit apex) list → stamped list id seconds wanted ≡ Some writes
+    → AllByRecursion (IsAllowed apex) wanted → AllByRecursion (IsValidUnit apex) list → stamped list id seconds wanted ≡ Some writes
     → AllByRecursion (IsValidWrite apex) writes
 unfolding stamped
 stamped_valid apex list id seconds [] writes fit allowed valid is = subst (AllByRecursion (IsValidWrite apex)) (some_is [] writes is) tt
@@ -60,7 +62,7 @@ stamped_valid apex list id seconds (one ∷ rest) writes fit allowed valid is =
     let later = both_read (stamped list id seconds rest) (λ others. Some (write_under one first.0 ∷ others)) writes first.2 in
     let fitting = and_parts (fits one.value) (list_all (λ wanted. fits wanted.value) rest) fit in
     subst (AllByRecursion (IsValidWrite apex)) (some_is (write_under one first.0 ∷ later.0) writes later.2) (
-      record { allowed = allowed.0; fitting = fitting.0; version = stamp_version one.key list id seconds first.0 first.1 },
+      record { allowed = allowed.0.0; records = allowed.0.1; fitting = fitting.0; version = stamp_version one.key list id seconds first.0 first.1 },
       stamped_valid apex list id seconds rest later.0 fitting.1 allowed.1 valid later.1,
     )
 
@@ -94,7 +96,7 @@ fitting_valid : (fit : Bool) (apex : Labels) (table : TableState) (made : Option
 fitting_valid true apex table made other brings valid = when_valid apex table made (brings refl) valid
 fitting_valid false apex table made other brings valid = valid
 
-pub written_keeps : (apex : Labels) (wanted : List Wanted) (id : ReplicaId) (ticks : ℕ) (table : TableState) → AllByRecursion (λ one. unit_ok apex one.key one.value ≡ true) wanted
+pub written_keeps : (apex : Labels) (wanted : List Wanted) (id : ReplicaId) (ticks : ℕ) (table : TableState) → AllByRecursion (IsAllowed apex) wanted
     → IsTable table.0 table.1 → AllByRecursion (IsValidUnit apex) table.0
     → let after = (written wanted id ticks table).0 in IsTable after.0 after.1 × AllByRecursion (IsValidUnit apex) after.0
 unfolding written

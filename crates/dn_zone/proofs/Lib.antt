@@ -14,3 +14,4 @@ pub mod ValidCreation
 pub mod ValidEvents
 pub mod ValidSettings
 pub mod WinnerLemmas
+pub mod ZoneData

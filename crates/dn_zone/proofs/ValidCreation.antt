@@ -14,10 +14,11 @@ use Rattle.dn_stamp.specs.Stamp.{IsVersion, first_stamp}
 use Rattle.dn_rdata.specs.declared.record.Record.{Record}
 use Rattle.dn_rdata.specs.Record.{made, names_in}
 use Rattle.dn_rdata.specs.Types.{NS, SOA}
+use Rattle.dn_rdata.proofs.CallerLemmas.{server_data, start_data}
 use Rattle.dn_store.specs.declared.unit.UnitKey.TheVariants as keys
 use Rattle.dn_store.specs.declared.unit.UnitValue.TheVariants as values
 use Rattle.dn_store.specs.Table.{IsTable}
-use Rattle.dn_store.specs.Valid.{IsValidWrite}
+use Rattle.dn_store.specs.Valid.{HasData, IsValidWrite}
 use Rattle.dn_store.specs.Value.{fits, is_lower, row_ok, row_size, rows_grow, soas, unit_ok, value_limit, value_size}
 use Rattle.dn_store.proofs.CallerLemmas.{lower_lowered, name_lowered, table_taken, valid_taken}
 use Rattle.dn_zone.specs.Creation.{created, first_numbers, first_properties, first_rows, first_writes, joined}
@@ -90,6 +91,11 @@ rows_short host mailbox named boxed =
 node_fits : (host mailbox : Labels) → IsName host → IsName mailbox → IsTrue (fits (values.Live (first_rows host mailbox)))
 node_fits host mailbox named boxed = le-leb (value_size (values.Live (first_rows host mailbox))) value_limit (rows_short host mailbox named boxed)
 
+-- their data are a name, and two names and twenty bytes
+rows_have_data : (host mailbox : Labels) → IsName host → IsName mailbox → HasData (values.Live (first_rows host mailbox))
+unfolding first_rows first_numbers
+rows_have_data host mailbox named boxed = (server_data host named, (start_data host mailbox first_numbers named boxed refl, tt))
+
 -- ---- the properties
 
 first_in_order : (apex : Labels) → unit_ok apex keys.Props (values.Props first_properties) ≡ true
@@ -105,8 +111,16 @@ writes_valid : (id : ReplicaId) (host apex mailbox : Labels) (ticks : ℕ) → I
     → AllByRecursion (IsValidWrite (lowered apex)) (first_writes id host apex mailbox ticks)
 unfolding first_writes
 writes_valid id host apex mailbox ticks named boxed = (
-  record { allowed = first_in_order (lowered apex); fitting = first_fit; version = first_version id (seconds_of ticks) },
-  (record { allowed = node_allowed host apex mailbox; fitting = node_fits host mailbox named boxed; version = first_version id (seconds_of ticks) }, tt),
+  record { allowed = first_in_order (lowered apex); records = tt; fitting = first_fit; version = first_version id (seconds_of ticks) },
+  (
+    record {
+      allowed = node_allowed host apex mailbox;
+      records = rows_have_data host mailbox named boxed;
+      fitting = node_fits host mailbox named boxed;
+      version = first_version id (seconds_of ticks);
+    },
+    tt,
+  ),
 )
 
 -- the table of which nothing is there

@@ -13,6 +13,7 @@ use Rattle.dn_property.specs.Rules.{rules_of}
 use Rattle.dn_stamp.specs.declared.stamp.ReplicaId.{ReplicaId}
 use Rattle.dn_stamp.specs.Stamp.{is_id}
 use Rattle.dn_rdata.specs.declared.record.Record.{Record}
+use Rattle.dn_rdata.specs.Layout.{IsData}
 use Rattle.dn_rdata.specs.Record.{made}
 use Rattle.dn_rdata.specs.Types.{SOA, answerable}
 use Rattle.dn_store.specs.declared.unit.Unit as units
@@ -20,10 +21,10 @@ use Rattle.dn_store.specs.declared.unit.Write.{Write}
 use Rattle.dn_store.specs.Contents.{props_number, properties_of}
 use Rattle.dn_store.specs.Table.{IsTable, TableState, change_limit, write_of, run_after}
 use Rattle.dn_store.specs.Valid.{IsValidUnit, IsValidWrite}
-use Rattle.dn_store.specs.Value.{fits, unit_ok}
+use Rattle.dn_store.specs.Value.{fits}
 use Rattle.dn_store.proofs.CallerLemmas.{all_filter, all_then, run_differ, run_order, run_short, run_valid, table_taken, valid_taken}
 use Rattle.dn_update.specs.Writes.{Wanted, with_writes, written}
-use Rattle.dn_update.proofs.CallerLemmas.{add_allowed, written_keeps}
+use Rattle.dn_update.proofs.CallerLemmas.{IsAllowed, add_allowed, written_keeps}
 use Rattle.dn_pass.specs.declared.pass.Pass.{Pass}
 use Rattle.dn_pass.specs.declared.pass.StepPlan.{StepPlan}
 use Rattle.dn_pass.specs.declared.pass.StepPlan.TheVariants as plans
@@ -66,7 +67,7 @@ table_with zone writes valid are within = (
 
 -- ---- commands
 
-written_valid : (zone : Zone) (wanted : List Wanted) (moment : ℕ) → IsValidZone zone → AllByRecursion (λ one. unit_ok zone.apex one.key one.value ≡ true) wanted
+written_valid : (zone : Zone) (wanted : List Wanted) (moment : ℕ) → IsValidZone zone → AllByRecursion (IsAllowed zone.apex) wanted
     → IsValidZone (with_table zone (written wanted zone.id moment zone.table)).0
 written_valid zone wanted moment valid allowed =
     valid_with zone (written wanted zone.id moment zone.table).0 zone.cursors zone.pass valid
@@ -80,21 +81,21 @@ set_valid zone cmd moment valid =
     written_valid zone (settings_wanted list settings) moment valid (settings_allowed zone.apex list settings (properties_grow zone.apex zone.table.0 valid.units))
 
 wanted_allowed : (zone : Zone) (name : Labels) (row : Record) (moment : ℕ) → IsValidZone zone → is_under name zone.apex ≡ true → answerable row.rtype ≡ true → nat_eq row.rtype SOA ≡ false
-    → AllByRecursion (λ one. unit_ok zone.apex one.key one.value ≡ true) (add_wanted zone name row moment)
+    → IsData row.rtype row.rdata → AllByRecursion (IsAllowed zone.apex) (add_wanted zone name row moment)
 unfolding add_wanted
-wanted_allowed zone name row moment valid under known other = add_allowed zone.apex name row zone.table.0 moment under known other valid.units
+wanted_allowed zone name row moment valid under known other has = add_allowed zone.apex name row zone.table.0 moment under known other has valid.units
 
 add_valid : (under : Bool) (zone : Zone) (name : Labels) (row : Record) (moment : ℕ) (answer : Answer) → is_under name zone.apex ≡ under → IsValidZone zone → answerable row.rtype ≡ true
-    → nat_eq row.rtype SOA ≡ false
+    → nat_eq row.rtype SOA ≡ false → IsData row.rtype row.rdata
     → IsValidZone (cond {A = Zone × Answer} under (with_table zone (written (add_wanted zone name row moment) zone.id moment zone.table)) (zone, answer)).0
-add_valid true zone name row moment answer is valid known other =
-    written_valid zone (add_wanted zone name row moment) moment valid (wanted_allowed zone name row moment valid is known other)
-add_valid false zone name row moment answer is valid known other = valid
+add_valid true zone name row moment answer is valid known other has =
+    written_valid zone (add_wanted zone name row moment) moment valid (wanted_allowed zone name row moment valid is known other has)
+add_valid false zone name row moment answer is valid known other has = valid
 
 admin_valid : (zone : Zone) (cmd : AdminCmd) (moment : ℕ) → IsValidZone zone → IsProperCommand cmd → IsValidZone (admin_step zone cmd moment).0
 unfolding admin_step
 admin_valid zone (Add name ttl rtype rdata hour) moment valid proper =
-    add_valid (is_under name zone.apex) zone name (made rtype ttl hour rdata) moment _ refl valid proper.1 proper.2
+    add_valid (is_under name zone.apex) zone name (made rtype ttl hour rdata) moment _ refl valid proper.1 proper.2 proper.3
 admin_valid zone AgingOn moment valid proper = set_valid zone AgingOn moment valid
 admin_valid zone AgingOff moment valid proper = set_valid zone AgingOff moment valid
 admin_valid zone (NoRefresh hours) moment valid proper = set_valid zone (NoRefresh hours) moment valid

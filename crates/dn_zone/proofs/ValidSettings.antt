@@ -17,6 +17,7 @@ use Rattle.dn_store.specs.Valid.{IsValidUnit}
 use Rattle.dn_store.specs.Value.{ids_grow, unit_ok}
 use Rattle.dn_store.proofs.CallerLemmas.{all_filter, all_passes, all_then, and_both, and_first, and_second, valid_at}
 use Rattle.dn_update.specs.Writes.{Wanted}
+use Rattle.dn_update.proofs.CallerLemmas.{IsAllowed}
 use Rattle.dn_zone.specs.declared.settings.Setting.{Setting}
 use Rattle.dn_zone.specs.Settings.{all_set, is_set, property, property_id, wanted_number, with_property, with_setting, with_settings}
 use Rattle.dn_zone.specs.Zone.{settings_wanted}
@@ -92,12 +93,12 @@ all_set_grow (setting ∷ rest) list grow = all_set_grow rest (with_setting sett
 
 -- what settings want written is allowed
 pub settings_allowed : (apex : Labels) (list : List Property) (settings : List Setting) → ids_grow list ≡ true
-    → AllByRecursion (λ one. unit_ok apex one.key one.value ≡ true) (settings_wanted list settings)
+    → AllByRecursion (IsAllowed apex) (settings_wanted list settings)
 unfolding settings_wanted
 settings_allowed apex list settings grow =
     let wanted : Wanted = record { key = keys.Props; value = values.Props (with_settings settings list) } in
-    cond_both (all_set (rules_of list) settings) [] (wanted ∷ []) (AllByRecursion (λ (one : Wanted). unit_ok apex one.key one.value ≡ true)) (λ is. tt)
-    (λ is. (all_grow (with_settings settings list) (all_set_grow settings list (grow_all list grow)), tt))
+    cond_both (all_set (rules_of list) settings) [] (wanted ∷ []) (AllByRecursion (IsAllowed apex)) (λ is. tt)
+    (λ is. ((all_grow (with_settings settings list) (all_set_grow settings list (grow_all list grow)), tt), tt))
 
 -- ---- the properties of a valid zone
 

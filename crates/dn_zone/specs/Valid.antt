@@ -2,6 +2,7 @@
 use Rattle.std.specs.Prelude.{◌≡◌, ℕ, ◌≤◌, true, false, nat_eq}
 use Rattle.std.specs.List.{AllByRecursion}
 use Rattle.dn_name.specs.Name.{IsName}
+use Rattle.dn_rdata.specs.Layout.{IsData}
 use Rattle.dn_rdata.specs.Types.{SOA, answerable}
 use Rattle.dn_store.specs.Table.{IsTable, change_limit}
 use Rattle.dn_store.specs.Valid.{IsValidUnit}
@@ -27,10 +28,11 @@ pub record IsValidZone (zone : Zone) : Type 0 where
 abbrev pub interval_limit : ℕ
 interval_limit = 87600
 
--- A proper command: a record that is added has a type that is answered, other than SOA, and a name; an interval is at most
--- 87,600 hours.
+-- A proper command: a record that is added has a name, a type that is answered, other than SOA, and data that are valid for
+-- this type; an interval is at most 87,600 hours.
 abbrev pub IsProperCommand : AdminCmd → Type 0
-IsProperCommand (Add name ttl rtype rdata hour) = IsName name × (answerable rtype ≡ true) × (nat_eq rtype SOA ≡ false)
+IsProperCommand (Add name ttl rtype rdata hour) =
+    IsName name × (answerable rtype ≡ true) × (nat_eq rtype SOA ≡ false) × IsData rtype rdata
 IsProperCommand AgingOn = Unit {0}
 IsProperCommand AgingOff = Unit {0}
 IsProperCommand (NoRefresh hours) = hours ≤ interval_limit

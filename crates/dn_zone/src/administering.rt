@@ -91,7 +91,7 @@ impl Zone {
         if !name.is_under(&self.apex) {
             return Ok(Prepared::Same(Answer::Admin(AdminDone::NotInZone)));
         }
-        let row = Record::make(alloc, *rtype, *ttl, *hour, rdata.as_slice())?;
+        let row = Record::with_any_data(alloc, *rtype, *ttl, *hour, rdata.as_slice())?;
         self.add(alloc, name, row, moment)
     }
 }
