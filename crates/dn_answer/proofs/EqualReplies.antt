@@ -7,12 +7,12 @@ use Rattle.std.proofs.lemmas.List.Sums.{sum_by-cons}
 use Rattle.dn_name.specs.Name.{Labels, is_same, wire_of, wire_len, IsName}
 use Rattle.dn_name.specs.Wire.{plain_name}
 use Rattle.dn_name.proofs.CallerLemmas.{plain_again}
+use Rattle.dn_message.specs.declared.rr.Rr.{Rr}
 use Rattle.dn_store.specs.declared.unit.Unit as units
 use Rattle.dn_store.specs.declared.unit.Write.{Write}
 use Rattle.dn_store.specs.Contents.{rows_in}
 use Rattle.dn_store.specs.Table.{TableState, write_of}
 use Rattle.dn_answer.specs.declared.reply.AnswerValue.{AnswerValue}
-use Rattle.dn_answer.specs.declared.reply.Rr.{Rr}
 use Rattle.dn_answer.specs.declared.rows.Owned.{Owned}
 use Rattle.dn_answer.specs.declared.walk.Walk.{Walk}
 use Rattle.dn_answer.specs.Alike.{EqualAnswerAlike, blank, blank_row, blanked, contents}

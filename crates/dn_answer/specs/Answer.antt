@@ -4,10 +4,10 @@ use Rattle.std.specs.Int.{w32, to_be_bytes}
 use Rattle.dn_name.specs.Name.{Labels, is_same, wire_of}
 use Rattle.dn_name.specs.Wire.{plain_name}
 use Rattle.dn_rdata.specs.Types.{AXFR, IN, SOA}
+use Rattle.dn_message.specs.declared.rcode.Rcode.TheVariants.{Refused}
+use Rattle.dn_message.specs.declared.rr.Rr.{Rr}
 use Rattle.dn_store.specs.Table.{TableState}
 use Rattle.dn_answer.specs.declared.reply.AnswerValue.{AnswerValue}
-use Rattle.dn_answer.specs.declared.reply.Rcode.TheVariants.{Refused}
-use Rattle.dn_answer.specs.declared.reply.Rr.{Rr}
 use Rattle.dn_answer.specs.declared.rows.Owned.{Owned}
 use Rattle.dn_answer.specs.declared.walk.Walk.{Walk}
 use Rattle.dn_answer.specs.Glue.{as_spelled, glue}

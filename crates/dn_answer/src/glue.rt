@@ -5,9 +5,9 @@ ghost use Rattle.dn_answer.specs.Glue.{addresses, glue, glue_rr, is_row, names_s
 ghost use Rattle.dn_answer.specs.Answer.{owner_of};
 ghost use Rattle.dn_answer.specs.Glue.Turn.{PutsGlue};
 
-use crate::reply::Rr;
 use crate::rows::{Owned, of_name, of_type};
 use dn_io::{Duplicate, List, OutOfMemory};
+use dn_message::Rr;
 use dn_name::Name;
 use dn_rdata::{A, AAAA, IN, MX, NS, SRV, target_of};
 use std::alloc::Global;

@@ -12,5 +12,5 @@ mod threads;
 mod walk;
 
 pub use alike::equal_replicas_answer_alike;
-pub use reply::{AnswerValue, Rcode, Rr};
+pub use reply::AnswerValue;
 pub use replying::{answer, refused};

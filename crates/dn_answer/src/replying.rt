@@ -2,11 +2,12 @@ ghost use Rattle.std.specs.Prelude.{◌≡◌, ◌-◌, drop, length, map, take,
 ghost use Rattle.dn_answer.specs.Answer.{answer_of, answered_data, refused, reply_of_rows, reply_of_walk, rr_of, serial_of, soa_data};
 
 use crate::glue::{glue, owner_of};
-use crate::reply::{AnswerValue, Rcode, Rr};
+use crate::reply::AnswerValue;
 use crate::rows::{Owned, has_type, rows_of};
 use crate::size::{behind, fitted};
 use crate::walk::{Walk, walk_from};
 use dn_io::{List, OutOfMemory};
+use dn_message::{Rcode, Rr};
 use dn_name::Name;
 use dn_rdata::{AXFR, IN, SOA, push_wire};
 use dn_store::Table;

@@ -1,8 +1,9 @@
 ghost use Rattle.std.specs.Prelude.{◌≡◌, ◌-◌, ◌^◌, min, drop, sum_by};
 ghost use Rattle.dn_answer.specs.Size.{data_size, fitted, reply_size, rr_size};
 
-use crate::reply::{AnswerValue, Rr};
+use crate::reply::AnswerValue;
 use dn_io::List;
+use dn_message::Rr;
 use dn_name::Name;
 use dn_rdata::SOA;
 use std::alloc::Global;

@@ -7,9 +7,9 @@ ghost use Rattle.dn_rdata.specs.Data.{minimum_of};
 ghost use Rattle.dn_answer.specs.Walk.Follow.{next_name};
 ghost use Rattle.dn_answer.specs.Rows.{of_name, of_type};
 
-use crate::reply::Rcode;
 use crate::rows::{Owned, first_of, has_type, of_name, of_type};
 use dn_io::{Duplicate, List, OutOfMemory};
+use dn_message::Rcode;
 use dn_name::Name;
 use dn_rdata::{ANY, CNAME, NS, Record, SOA, answerable, minimum_of, target_of};
 use std::alloc::Global;

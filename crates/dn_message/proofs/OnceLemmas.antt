@@ -6,7 +6,7 @@ use Rattle.dn_name.specs.Spelled.{IsSpelledOnce, Spelled}
 use Rattle.dn_rdata.specs.Laid.{Stands}
 use Rattle.dn_rdata.proofs.CallerLemmas.{parts_once}
 use Rattle.dn_message.specs.declared.additional.Seen.{Seen}
-use Rattle.dn_message.specs.declared.header.Counts.{Counts}
+use Rattle.dn_message.specs.declared.counts.Counts.{Counts}
 use Rattle.dn_message.specs.declared.header.QueryHeader.{QueryHeader}
 use Rattle.dn_message.specs.declared.header.ReplyHeader.{ReplyHeader}
 use Rattle.dn_message.specs.declared.query.Opt.{Opt}
@@ -25,7 +25,7 @@ use Rattle.dn_message.proofs.FieldLemmas.{kind_found, number_found}
 use Rattle.dn_message.proofs.QueryLemmas.{query_found, unseen}
 use Rattle.dn_message.proofs.QuestionLemmas.{question_found}
 use Rattle.dn_message.proofs.RecordLemmas.{head_found, head_in, row_found}
-use Rattle.dn_message.proofs.ReplyLemmas.{header_in, header_of, reply_found, rows_follow, sections_in, sections_of}
+use Rattle.dn_message.proofs.ReplyLemmas.{header_in, header_of, reply_found, sections_in, sections_of}
 use Rattle.dn_message.proofs.SectionLemmas.{sections_found}
 
 -- ---- entries that stand once follow each other once
@@ -129,9 +129,7 @@ module _ (once : IsSpelledOnce) (message : List ℕ) where
 
   seen_once : (count at : ℕ) (seen : Seen) → Completes message count at unseen seen → (other : Seen) → Completes message count at unseen other → other ≡ seen
   seen_once count at seen is other also =
-      let follow = rows_follow any_data message at is.rows (length message) is.stand in
-      let follows = rows_follow any_data message at also.rows (length message) also.stand in
-      let rows = (follow_once (IsRr any_data message) (row_once any_data) at at (length message) (length message) is.rows also.rows refl (also.count_is ∙ sym is.count_is) follow follows).0 in
+      let rows = (follow_once (IsRr any_data message) (row_once any_data) at at (length message) (length message) is.rows also.rows refl (also.count_is ∙ sym is.count_is) is.stand also.stand).0 in
       let opt = opt_once (filter is_opt is.rows) seen.opt other.opt is.opt_is (subst (λ rs. HasOpt (filter is_opt rs) other.opt) rows also.opt_is) in
       let signed = also.signed_is ∙ ap (list_any is_signature) rows ∙ sym is.signed_is in
       λ k. record { opt = opt k; signed = signed k }

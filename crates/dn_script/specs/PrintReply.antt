@@ -1,9 +1,9 @@
 -- What a script prints of a reply.
 use Rattle.std.specs.Prelude.{ℕ, Bool, true, false, List, ◌++◌, length, flat_map, codes}
+use Rattle.dn_message.specs.declared.rcode.Rcode.{Rcode}
+use Rattle.dn_message.specs.declared.rcode.Rcode.TheVariants.{NoError, FormErr, ServFail, NxDomain, NotImp, Refused, YxDomain, YxRrset, NxRrset, NotAuth, NotZone}
+use Rattle.dn_message.specs.declared.rr.Rr.{Rr}
 use Rattle.dn_answer.specs.declared.reply.AnswerValue.{AnswerValue}
-use Rattle.dn_answer.specs.declared.reply.Rcode.{Rcode}
-use Rattle.dn_answer.specs.declared.reply.Rcode.TheVariants.{NoError, FormErr, ServFail, NxDomain, NotImp, Refused, YxDomain, YxRrset, NxRrset, NotAuth, NotZone}
-use Rattle.dn_answer.specs.declared.reply.Rr.{Rr}
 use Rattle.dn_text.specs.Print.{as_line, count_text}
 use Rattle.dn_text.specs.Rows.{row_text}
 

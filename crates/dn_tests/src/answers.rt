@@ -1,8 +1,9 @@
 use crate::fixtures::{
     TXT, check_bytes, is_on_wire, list_of, name, node, put_one, put_record, record, zeros,
 };
-use dn_answer::{AnswerValue, Rcode, Rr, answer, refused};
+use dn_answer::{AnswerValue, answer, refused};
 use dn_io::List;
+use dn_message::{Rcode, Rr};
 use dn_rdata::{A, AAAA, ANY, AXFR, CNAME, MX, NS, Record, SOA};
 use dn_store::{Table, UnitValue};
 use std::alloc::Global;

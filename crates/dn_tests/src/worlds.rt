@@ -1,6 +1,7 @@
 use crate::fixtures::{crosses, is_on_wire, name};
-use dn_answer::{AnswerValue, Rcode};
+use dn_answer::AnswerValue;
 use dn_io::Moment;
+use dn_message::Rcode;
 use dn_name::Name;
 use dn_rdata::A;
 use dn_stamp::ReplicaId;
