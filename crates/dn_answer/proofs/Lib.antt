@@ -5,3 +5,4 @@ pub mod SendableReplies
 pub mod ValidRows
 pub mod ValidSoaLemmas
 pub mod WalkLemmas
+pub mod WrittenLemmas

@@ -11,7 +11,7 @@ use Rattle.dn_answer.specs.declared.rows.Owned.{Owned}
 use Rattle.dn_answer.specs.Answer.{answered_data, soa_data, with_primary}
 use Rattle.dn_answer.specs.Size.{behind_primary, data_size}
 
-wire_size : (name : Labels) → length (wire_of name) ≡ wire_len name
+pub wire_size : (name : Labels) → length (wire_of name) ≡ wire_len name
 wire_size [] = refl
 wire_size (label ∷ name) = omega (arith, length-append label (wire_of name), wire_size name)
 

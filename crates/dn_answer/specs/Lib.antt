@@ -5,3 +5,4 @@ pub mod Rows
 pub mod Sendable
 pub mod Size
 pub mod Walk
+pub mod Written

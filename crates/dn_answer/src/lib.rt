@@ -11,8 +11,10 @@ mod sendable;
 mod size;
 mod threads;
 mod walk;
+mod writing;
 
 pub use alike::equal_replicas_answer_alike;
 pub use reply::AnswerValue;
 pub use replying::{answer, refused};
 pub use sendable::answers_are_sendable;
+pub use writing::write_answer;
