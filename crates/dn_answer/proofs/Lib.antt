@@ -1,5 +1,7 @@
+pub mod CallerLemmas
 pub mod EqualReplies
 pub mod GlueLemmas
+pub mod RefusalLemmas
 pub mod RowLemmas
 pub mod SendableReplies
 pub mod ValidRows

@@ -4,5 +4,6 @@ pub mod Glue
 pub mod Rows
 pub mod Sendable
 pub mod Size
+pub mod Told
 pub mod Walk
 pub mod Written

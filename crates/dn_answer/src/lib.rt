@@ -10,6 +10,7 @@ mod rows;
 mod sendable;
 mod size;
 mod threads;
+mod told;
 mod walk;
 mod writing;
 
@@ -17,4 +18,5 @@ pub use alike::equal_replicas_answer_alike;
 pub use reply::AnswerValue;
 pub use replying::{answer, refused};
 pub use sendable::answers_are_sendable;
+pub use told::value_of;
 pub use writing::write_answer;

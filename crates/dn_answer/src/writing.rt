@@ -2,6 +2,7 @@
 
 ghost use Rattle.std.specs.Prelude.{◌≡◌, ◌≤◌, [], length, take};
 ghost use Rattle.dn_rdata.specs.Types.{IN};
+ghost use Rattle.dn_message.specs.Pieces.{bytes_of};
 ghost use Rattle.dn_message.specs.Reply.{IsReply};
 ghost use Rattle.dn_message.specs.Writer.{Holds, size};
 ghost use Rattle.dn_answer.specs.Sendable.{IsSendable, sent};
@@ -16,6 +17,7 @@ pub fn write_answer(query: &Query, reply: &AnswerValue, out: &mut [u8]) -> usize
     requires class { query.now.qclass ≡ IN }
     requires sendable { IsSendable query.now.name reply.now }
     requires room { 512 ≤ length out.old }
+    ensures bytes { take result out.new ≡ bytes_of (sent query.now reply.now) }
     ensures read { IsReply (take result out.new) (sent query.now reply.now) }
     ensures len { (12 ≤ result) × (result ≤ 512) }
     ensures kept { length out.new ≡ length out.old }

@@ -1,12 +1,15 @@
 -- What was written is a query.
-use Rattle.std.proofs.Common.{◌≡◌, ℕ, ◌+◌, ◌*◌, ◌/◌, ◌%◌, ◌<◌, Bool, true, false, if◌then◌else◌, List, [], ◌∷◌, ◌++◌, length, take, drop, Option, None, Some, IfSome, refl, sym, ap, subst, ◌∙◌, arith, append_assoc, length-append, drop_at, drop-drop}
+use Rattle.std.proofs.Common.{◌≡◌, ℕ, ◌+◌, ◌*◌, ◌/◌, ◌%◌, ◌<◌, nat_lt, Bool, true, false, if◌then◌else◌, List, [], ◌∷◌, ◌++◌, length, take, drop, Option, None, Some, IfSome, refl, sym, ap, subst, ◌∙◌, arith, append_assoc, length-append, drop_at, drop-drop}
 use Rattle.std.proofs.lemmas.List.{append-nil}
+use Rattle.std.proofs.lemmas.Bool.Decides.{nat_tests}
 use Rattle.std.specs.List.{filter, list_any}
 use Rattle.dn_name.specs.Name.{IsName, Labels, wire_len, wire_of}
 use Rattle.dn_name.proofs.CallerLemmas.{plain_spelled}
 use Rattle.dn_message.specs.declared.query.Opt.{Opt}
 use Rattle.dn_message.specs.declared.query.Query.{Query}
+use Rattle.dn_message.specs.declared.kind.Kind.TheVariants as kinds
 use Rattle.dn_message.specs.Fields.{four_bytes, two_bytes}
+use Rattle.dn_message.specs.Kind.{kind_of}
 use Rattle.dn_message.specs.Header.{IsHeader, is_recursion_desired}
 use Rattle.dn_message.specs.Query.{HasOpt, IsQuery, is_opt, is_signature, opt_of}
 use Rattle.dn_message.specs.Record.{AreRrs, IsRr, any_data, fields}
@@ -210,3 +213,21 @@ module _ (query : Query) (start first second third : List ℕ) (a b c : ℕ) (he
       subst (λ o. Appends 0 start (((header_bytes query.id query.rd query.opt ++ wire_of query.name) ++ kind_bytes query.qtype query.qclass) ++ additional_bytes o) d last) (sym some)
       (appends_then 0 c d start third last ((header_bytes query.id query.rd query.opt ++ wire_of query.name) ++ kind_bytes query.qtype query.qclass) (opt_bytes opt) front_written
       (subst (λ xs. Appends c third xs d last) piece_same four))
+
+-- ---- its kind
+
+not_short : (a b c d e f g h i j k l : ℕ) (rest : List ℕ) → nat_lt (length (a ∷ (b ∷ (c ∷ (d ∷ (e ∷ (f ∷ (g ∷ (h ∷ (i ∷ (j ∷ (k ∷ (l ∷ rest))))))))))))) 12 ≡ false
+not_short a b c d e f g h i j k l rest = grind (arith, nat_tests)
+
+-- bytes that begin with the header of a query are one by their kind
+header_kind : (id : ℕ) (rd : Bool) (opt : Option Opt) (rest : List ℕ) → kind_of (header_bytes id rd opt ++ rest) ≡ kinds.Query
+header_kind id true opt rest = rw (not_short (id / 256) (id % 256) 1 0 0 1 0 0 0 0 0 (length (additional_of opt)) rest) refl
+header_kind id false opt rest = rw (not_short (id / 256) (id % 256) 0 0 0 1 0 0 0 0 0 (length (additional_of opt)) rest) refl
+
+pub written_kind : (query : Query) (written : List ℕ) → written ≡ query_bytes query → kind_of written ≡ kinds.Query
+unfolding query_bytes
+written_kind query written e =
+    ap kind_of (e
+    ∙ append_assoc (header_bytes query.id query.rd query.opt ++ wire_of query.name) (kind_bytes query.qtype query.qclass) (additional_bytes query.opt)
+    ∙ append_assoc (header_bytes query.id query.rd query.opt) (wire_of query.name) (kind_bytes query.qtype query.qclass ++ additional_bytes query.opt))
+    ∙ header_kind query.id query.rd query.opt (wire_of query.name ++ (kind_bytes query.qtype query.qclass ++ additional_bytes query.opt))

@@ -1,5 +1,5 @@
 -- The header of a message (RFC 1035 4.1.1): six numbers of two bytes.
-use Rattle.std.specs.Prelude.{ℕ, ◌/◌, ◌%◌, Bool, nat_eq, List}
+use Rattle.std.specs.Prelude.{ℕ, ◌/◌, ◌%◌, Bool, nat_eq, List, [], ◌∷◌, Option, slice_get}
 use Rattle.dn_rdata.specs.Laid.{Stands}
 use Rattle.dn_message.specs.declared.rcode.Rcode.{Rcode}
 use Rattle.dn_message.specs.declared.rcode.Rcode.TheVariants.{NoError, FormErr, ServFail, NxDomain, NotImp, Refused, YxDomain, YxRrset, NxRrset, NotAuth, NotZone}
@@ -43,6 +43,13 @@ number_of_rcode YxRrset = 7
 number_of_rcode NxRrset = 8
 number_of_rcode NotAuth = 9
 number_of_rcode NotZone = 10
+
+-- the codes by their numbers
+abbrev pub rcodes : List Rcode
+rcodes = NoError ∷ FormErr ∷ ServFail ∷ NxDomain ∷ NotImp ∷ Refused ∷ YxDomain ∷ YxRrset ∷ NxRrset ∷ NotAuth ∷ NotZone ∷ []
+
+abbrev pub rcode_of_number : ℕ → Option Rcode
+rcode_of_number number = slice_get rcodes number
 
 -- the message's number, its flags, and how many entries each section has
 pub record IsHeader (message : List ℕ) (number flags questions answers authorities additional : ℕ) : Type 0 where

@@ -1,5 +1,5 @@
 ghost use Rattle.std.specs.Prelude.{◌≡◌};
-ghost use Rattle.dn_message.specs.Header.{number_of_rcode};
+ghost use Rattle.dn_message.specs.Header.{number_of_rcode, rcode_of_number};
 
 /// The code of a reply (RFC 1035 4.1.1, RFC 2136 2.2).
 #[derive(Clone, Copy, Debug, PartialEq, Eq)]
@@ -34,6 +34,26 @@ impl Rcode {
             Rcode::NxRrset => 8,
             Rcode::NotAuth => 9,
             Rcode::NotZone => 10,
+        }
+    }
+
+    /// The code of a number in a header; none above 10.
+    pub fn of_number(number: u8) -> Option<Rcode>
+        ensures { result ≡ rcode_of_number number }
+    {
+        match number {
+            0 => Some(Rcode::NoError),
+            1 => Some(Rcode::FormErr),
+            2 => Some(Rcode::ServFail),
+            3 => Some(Rcode::NxDomain),
+            4 => Some(Rcode::NotImp),
+            5 => Some(Rcode::Refused),
+            6 => Some(Rcode::YxDomain),
+            7 => Some(Rcode::YxRrset),
+            8 => Some(Rcode::NxRrset),
+            9 => Some(Rcode::NotAuth),
+            10 => Some(Rcode::NotZone),
+            _ => None,
         }
     }
 }

@@ -2,6 +2,8 @@
 
 ghost use Rattle.std.specs.Prelude.{◌≡◌, ◌↔◌, ◌+◌, ◌<◌, ◌≤◌, ◌++◌, false, length, take, drop, IfOk, IfSome, IsOk, OnErr};
 ghost use Rattle.dn_name.specs.Name.{IsName, wire_len, wire_of};
+ghost use Rattle.dn_message.specs.declared.kind.Kind.TheVariants as kinds;
+ghost use Rattle.dn_message.specs.Kind.{kind_of};
 ghost use Rattle.dn_message.specs.Query.{IsQuery};
 ghost use Rattle.dn_message.specs.Writing.{Appends, header_bytes, kind_bytes, opt_bytes, query_bytes};
 
@@ -18,6 +20,7 @@ pub fn write_query(query: &Query, out: &mut [u8]) -> Result<usize, NoRoom>
     ensures room { IsOk result ↔ (length (query_bytes query.now) ≤ length out.old) }
     ensures appends { IfOk result (λ len. Appends 0 out.old (query_bytes query.now) len out.new) }
     ensures read_back { IfOk result (λ len. IsQuery (take len out.new) query.now) }
+    ensures kind { IfOk result (λ len. kind_of (take len out.new) ≡ kinds.Query) }
     ensures err { OnErr result (out.new ≡ out.old) }
 {
     if query_len(query) > out.len() {

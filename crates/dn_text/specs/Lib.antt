@@ -1,4 +1,5 @@
 pub mod Addresses
+pub mod Hex
 pub mod Moments
 pub mod Names
 pub mod Numbers

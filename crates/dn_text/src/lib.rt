@@ -3,6 +3,7 @@
 
 mod address;
 mod error;
+mod hexadecimal;
 mod number;
 mod parts;
 mod print;
@@ -13,6 +14,7 @@ mod words;
 
 pub use address::{cut, ip_of};
 pub use error::TextError;
+pub use hexadecimal::{bytes_of_hex, hex_line};
 pub use number::number_within;
 pub use parts::{is_type_a, moment_of, name_of, number_of};
 pub use print::{push_count, push_number};

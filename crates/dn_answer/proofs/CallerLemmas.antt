@@ -1,0 +1,2 @@
+-- What crates above may cite of these proofs.
+pub use Rattle.dn_answer.proofs.RefusalLemmas.{answer_refuses, transfer_refused}
