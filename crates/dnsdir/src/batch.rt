@@ -60,8 +60,8 @@ pub fn batch<S: Source, K: Sink>(
     // and a step that is void or idle, change no record.
     ensures aging { (list : List WorldEvent) → AgesRightly (wrun list) }
 
-    // Each host is a name, each zone is valid (its units for its apex, under different numbers up to its change count), and so
-    // is each packet that was sent.
+    // Each host is a name, each zone is valid (its units for its apex, their data for their types, under different numbers up
+    // to its change count), and so is each packet that was sent.
     ensures valid { (list : List WorldEvent) → AreProper list → IsValidWorld (wrun list) }
 {
     a_play_is_one_run();
