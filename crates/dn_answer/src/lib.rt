@@ -1,5 +1,5 @@
 //! The reply of a zone to a question (RFC 1034 4.3.2, RFC 2308): the walk over delegations and aliases, the additional rows,
-//! and the cut at 512 bytes.
+//! the cut at 512 bytes, and the reply's bytes.
 #![tactic(auto)]
 
 mod alike;
