@@ -1,9 +1,8 @@
 -- Entries that are read one behind another.
-use Rattle.std.proofs.Common.{◌≡◌, ℕ, suc, ◌+◌, List, [], ◌∷◌, ◌++◌, length, refl, sym, ap, ap₂, subst, ◌∙◌, arith, append_assoc, append-nil, Err}
+use Rattle.std.proofs.Common.{◌≡◌, ℕ, ◌+◌, List, [], ◌∷◌, ◌++◌, refl, sym, ap, ap₂, subst, ◌∙◌, arith, append_assoc, append-nil, Err}
 use Rattle.dn_message.specs.declared.error.ReadError.{ReadError}
 use Rattle.dn_message.specs.declared.error.ReadError.TheVariants as errors
 use Rattle.dn_message.specs.Reads.{Reads}
-use Rattle.dn_message.specs.Record.{Follow}
 use Rattle.dn_message.specs.ReplyReading.{AreEntries}
 
 -- where a fault of a part is a fault of the whole, so is what a reader of the part refuses

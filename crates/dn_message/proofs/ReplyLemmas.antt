@@ -1,11 +1,10 @@
 -- A reply is its header and its sections.
-use Rattle.std.proofs.Common.{◌≡◌, ℕ, List, length, refl, sym, ap, subst, ◌∙◌}
-use Rattle.dn_message.specs.declared.counts.Counts.{Counts}
+use Rattle.std.proofs.Common.{◌≡◌, ℕ, List, length, refl, ap, subst, ◌∙◌}
 use Rattle.dn_message.specs.declared.header.ReplyHeader.{ReplyHeader}
 use Rattle.dn_message.specs.declared.reply.Reply.{Reply}
 use Rattle.dn_message.specs.declared.sections.Sections.{Sections}
 use Rattle.dn_message.specs.Header.{IsHeader, is_authoritative, is_recursion_available, is_recursion_desired, is_truncated, opcode, rcode_in, zero_bits}
-use Rattle.dn_message.specs.Reply.{FlagsSay, IsReply}
+use Rattle.dn_message.specs.Reply.{IsReply}
 use Rattle.dn_message.specs.ReplyReading.{AreSections, IsReplyHeader}
 
 -- ---- the header and the sections of a reply

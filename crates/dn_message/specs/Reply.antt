@@ -1,5 +1,5 @@
 -- The grammar of a reply (RFC 1035 4.1).
-use Rattle.std.specs.Prelude.{◌≡◌, ℕ, ◌+◌, true, List, [], ◌∷◌, ◌++◌, length}
+use Rattle.std.specs.Prelude.{◌≡◌, ℕ, ◌+◌, true, List, ◌++◌, length}
 use Rattle.dn_name.specs.Spelled.{Spelled}
 use Rattle.dn_rdata.specs.Laid.{Stands}
 use Rattle.dn_message.specs.declared.reply.Question.{Question}

@@ -1,5 +1,5 @@
 -- How a reply is read: what each reader of a part gives.
-use Rattle.std.specs.Prelude.{◌≡◌, ℕ, ◌/◌, ◌%◌, true, List, [], ◌∷◌, ◌++◌, length, Result, Ok, Err}
+use Rattle.std.specs.Prelude.{◌≡◌, ℕ, true, List, ◌++◌, length, Result, Ok, Err}
 use Rattle.dn_rdata.specs.Laid.{Stands}
 use Rattle.dn_message.specs.declared.rdata.PartError.{PartError}
 use Rattle.dn_message.specs.declared.rdata.PartError.TheVariants.{Missing, OutOfMemory}
@@ -7,7 +7,7 @@ use Rattle.dn_message.specs.declared.counts.Counts.{Counts}
 use Rattle.dn_message.specs.declared.header.ReplyHeader.{ReplyHeader}
 use Rattle.dn_message.specs.declared.sections.Sections.{Sections}
 use Rattle.dn_message.specs.Fields.{two_bytes}
-use Rattle.dn_message.specs.Header.{IsHeader, is_reply}
+use Rattle.dn_message.specs.Header.{is_reply}
 use Rattle.dn_message.specs.Record.{Follow, IsRr, typed_data}
 use Rattle.dn_message.specs.Reply.{IsQuestion}
 

@@ -10,13 +10,14 @@ ghost use Rattle.dn_message.specs.Writing.{Appends, header_bytes, kind_bytes, op
 use crate::query::{Opt, Query};
 use dn_name::{Name, NoRoom};
 
-/// Writes a query at the front of the buffer, and answers how many bytes it takes; the bytes behind stay. Flags other than
-/// RD are zero, and the OPT record, where there is one, has the root's name and no data (RFC 6891 6.1.2).
+/// Writes a query at the front of the buffer, and answers how many bytes it takes, 282 at most; the bytes behind stay. Flags
+/// other than RD are zero, and the OPT record, where there is one, has the root's name and no data (RFC 6891 6.1.2).
 ///
 /// # Errors
 /// `NoRoom` exactly where the query doesn't fit into the buffer. The buffer is then unchanged.
 pub fn write_query(query: &Query, out: &mut [u8]) -> Result<usize, NoRoom>
     requires { query.now.signed ≡ false }
+    ensures most { length (query_bytes query.now) ≤ 282 }
     ensures room { IsOk result ↔ (length (query_bytes query.now) ≤ length out.old) }
     ensures appends { IfOk result (λ len. Appends 0 out.old (query_bytes query.now) len out.new) }
     ensures read_back { IfOk result (λ len. IsQuery (take len out.new) query.now) }
@@ -32,6 +33,7 @@ pub fn write_query(query: &Query, out: &mut [u8]) -> Result<usize, NoRoom>
 // How many bytes a query takes.
 fn query_len(query: &Query) -> usize
     ensures len { result ≡ length (query_bytes query.now) }
+    ensures most { result ≤ 282 }
     ensures named { IsName query.now.name }
 {
     let len = query.name.wire_len();
