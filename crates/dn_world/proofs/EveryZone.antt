@@ -1,6 +1,6 @@
 -- What a new zone has and each of its events keeps, every zone of a world keeps through each event.
-use Rattle.std.proofs.Common.{◌≡◌, ℕ, zero, suc, Bool, true, false, cond, List, [], ◌∷◌, ◌++◌, ◌<◌, Option, None, Some, refl, subst, arith}
-use Rattle.std.specs.Prelude.{position, slice_get, slice_index_or, slice_set, nat_le, length}
+use Rattle.std.proofs.Common.{◌≡◌, ℕ, zero, suc, Bool, true, false, cond, List, [], ◌∷◌, ◌<◌, Option, None, Some, refl, subst, arith}
+use Rattle.std.specs.Prelude.{position, slice_get, slice_index_or, nat_le, length}
 use Rattle.std.specs.List.{AllByRecursion, list_any}
 use Rattle.dn_name.specs.Name.{Labels}
 use Rattle.dn_stamp.specs.declared.stamp.ReplicaId.{ReplicaId}

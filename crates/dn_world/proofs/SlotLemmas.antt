@@ -1,5 +1,5 @@
 -- What holds of each item of a list, where one is added behind it, takes another's place, or is looked up or found.
-use Rattle.std.proofs.Common.{◌≡◌, ℕ, zero, suc, ◌+◌, Bool, true, false, cond, not, length, nat_lt, List, [], ◌∷◌, ◌++◌, Option, None, Some, refl, ap, sym, subst, arith, ◌∙◌}
+use Rattle.std.proofs.Common.{◌≡◌, ℕ, zero, suc, ◌+◌, Bool, true, false, cond, not, length, nat_lt, List, [], ◌∷◌, ◌++◌, Option, None, Some, refl, ap, subst, arith, ◌∙◌}
 use Rattle.std.specs.List.{AllByRecursion, position_or_len}
 use Rattle.std.specs.Prelude.{find, position, slice_get, slice_set}
 

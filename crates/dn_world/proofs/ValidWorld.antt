@@ -2,7 +2,7 @@
 use Rattle.std.proofs.Common.{◌≡◌, ℕ, zero, suc, Bool, true, false, cond, List, [], ◌∷◌, ◌++◌, Option, None, Some, refl, sym, ◌∙◌}
 use Rattle.std.proofs.lemmas.Bool.{and_parts}
 use Rattle.std.specs.Prelude.{find, position, slice_get, nat_le, length}
-use Rattle.std.specs.List.{AllByRecursion, list_any}
+use Rattle.std.specs.List.{list_any}
 use Rattle.dn_name.specs.Name.{IsName, Labels, is_same}
 use Rattle.dn_stamp.specs.declared.stamp.ReplicaId.{ReplicaId}
 use Rattle.dn_stamp.specs.Stamp.{is_id}
@@ -179,7 +179,8 @@ event_keeps world (events.Pull by of apex) valid proper = pulled world (slice_ge
 event_keeps world (events.Deliver number) valid proper =
     delivered world (post_at world.packets number) valid (λ post is. post_valid world number post valid is)
 
-run_keeps : (now : World × WorldAnswer) (list : List WorldEvent) → IsValidWorld now.0 → AreProper list → IsValidWorld (run_from now list).0
+-- from a valid world
+pub run_keeps : (now : World × WorldAnswer) (list : List WorldEvent) → IsValidWorld now.0 → AreProper list → IsValidWorld (run_from now list).0
 run_keeps now [] valid proper = valid
 run_keeps now (event ∷ rest) valid proper = run_keeps (wstep now.0 event) rest (event_keeps now.0 event valid proper.0) proper.1
 

@@ -1,4 +1,5 @@
 pub mod Ask
+pub mod Datagram
 pub mod Laws
 pub mod Runs
 pub mod World

@@ -1,5 +1,5 @@
 -- Worlds behind lists of events: which events are proper, and what a valid world is.
-use Rattle.std.specs.Prelude.{ℕ, List, [], ◌∷◌}
+use Rattle.std.specs.Prelude.{List, [], ◌∷◌}
 use Rattle.std.specs.List.{AllByRecursion}
 use Rattle.dn_name.specs.Name.{IsName}
 use Rattle.dn_link.specs.declared.packet.Packet.{Packet}

@@ -1,10 +1,11 @@
 //! Replicas, their zones, and the packets between them: what each event makes of a world, and what holds of every world.
 #![tactic(auto)]
 
+mod datagrams;
 mod event;
 mod laws;
+mod nearest;
 mod replication;
-mod replies;
 mod threads;
 mod world;
 

@@ -1,5 +1,3 @@
-use Rattle.dn_name.specs.Name.{IsName}
-use Rattle.dn_zone.specs.declared.zone.Zone.{Zone}
 use Rattle.dn_world.specs.Runs.{IsValidWorld, wrun}
 use Rattle.dn_zone.specs.Valid.{IsValidZone}
 use Rattle.dn_world.proofs.EveryZone.{holds_among}

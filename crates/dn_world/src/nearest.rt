@@ -1,14 +1,12 @@
-ghost use Rattle.std.specs.Prelude.{◌≡◌, IfOk, Some, option_copied};
-ghost use Rattle.dn_world.specs.Ask.{world_reply};
+//! The zone of a replica that answers for a name.
+
+ghost use Rattle.std.specs.Prelude.{◌≡◌, Some, option_copied};
 ghost use Rattle.dn_world.specs.World.{covers, nearer, zone_for};
 
 use crate::world::World;
-use dn_answer::{AnswerValue, answer, refused};
-use dn_io::OutOfMemory;
 use dn_name::Name;
 use dn_stamp::ReplicaId;
 use dn_zone::Zone;
-use std::alloc::Global;
 
 // Whether a zone is the replica's, and the name under its apex.
 #[tactic(auto, unfolding(crate::specs::World::covers))]
@@ -31,7 +29,7 @@ fn nearer<'a>(zone: &'a Zone, other: Option<&'a Zone>) -> &'a Zone
 impl World {
     // The zone of a replica that answers for a name: of those that the name is under, the one with the longest apex.
     #[tactic(auto, unfolding(crate::specs::World::zone_for, crate::specs::World::nearest))]
-    fn zone_for(&self, id: ReplicaId, name: &Name) -> Option<&Zone>
+    pub fn zone_for(&self, id: ReplicaId, name: &Name) -> Option<&Zone>
         ensures { option_copied result ≡ zone_for self.now id name.now }
     {
         let zones = self.zones.as_slice();
@@ -45,30 +43,5 @@ impl World {
             }
         }
         nearest
-    }
-
-    /// What the replica of a number, from 0, replies to a question: REFUSED where none of its zones has the name; none where
-    /// there is no such replica.
-    ///
-    /// # Errors
-    /// `OutOfMemory`.
-    #[tactic(auto, unfolding(crate::specs::Ask::world_reply))]
-    pub fn reply(
-        &self,
-        alloc: Global,
-        at: usize,
-        name: &Name,
-        qtype: u16,
-    ) -> Result<Option<AnswerValue>, OutOfMemory>
-        ensures { IfOk result (λ reply. reply ≡ world_reply self.now at name.now qtype) }
-    {
-        let Some(replica) = self.replicas.get(at) else {
-            return Ok(None);
-        };
-        let reply = match self.zone_for(replica.id, name) {
-            Some(zone) => answer(alloc, zone.table(), zone.apex(), zone.host(), name, qtype)?,
-            None => refused(alloc),
-        };
-        Ok(Some(reply))
     }
 }
