@@ -1,3 +1,4 @@
+pub mod AskLemmas
 pub mod LineLemmas
 pub mod NameLemmas
 pub mod PassRuns

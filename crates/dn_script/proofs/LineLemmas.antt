@@ -1,12 +1,15 @@
 -- What the bodies of single lines need of their definitions.
-use Rattle.std.proofs.Common.{◌≡◌, ℕ, List, [], ◌∷◌, None, Some, Result, Ok, Err, refl, ap, sym, subst, ◌∙◌}
+use Rattle.std.proofs.Common.{◌≡◌, ℕ, if◌then◌else◌, List, [], ◌∷◌, None, Some, Result, Ok, Err, refl, ap, sym, subst, ◌∙◌}
+use Rattle.std.specs.Prelude.{slice_get}
 use Rattle.dn_io.specs.Options.{◌>>=◌}
 use Rattle.dn_name.specs.Name.{Labels}
+use Rattle.dn_text.specs.Print.{as_line}
 use Rattle.dn_world.specs.declared.event.WorldAnswer.{WorldAnswer}
 use Rattle.dn_world.specs.declared.event.WorldAnswer.TheVariants.{Made}
 use Rattle.dn_world.specs.declared.event.WorldEvent.TheVariants.{Deliver}
 use Rattle.dn_world.specs.declared.world.World.{World}
 use Rattle.dn_world.specs.Ask.{world_reply}
+use Rattle.dn_world.specs.Datagram.{reply_to, wants_more}
 use Rattle.dn_world.specs.Runs.{run_from}
 use Rattle.dn_script.specs.declared.bad.Bad.{Bad}
 use Rattle.dn_script.specs.declared.bad.Bad.TheVariants as bad
@@ -15,6 +18,7 @@ use Rattle.dn_script.specs.declared.script.Script.{Script}
 use Rattle.dn_script.specs.Passes.{pass_events, whole_pass}
 use Rattle.dn_script.specs.Play.{Step, after_event, besides, events_of, output_of, replica_number, run_events, run_line}
 use Rattle.dn_script.specs.Play.Stepped.{Gives, Steps}
+use Rattle.dn_script.specs.Print.{datagram_text}
 use Rattle.dn_script.specs.PrintReply.{reply_text}
 use Rattle.dn_script.proofs.PassRuns.{whole_pass_runs}
 
@@ -66,3 +70,13 @@ pub ask_line : (script : Script) (replica : List ℕ) (name : Labels) (qtype : �
     ≡ (replica_number script replica >>= λ at. world_reply script.world at name qtype >>= λ reply. Some (script, reply_text reply))
 unfolding run_line events_of run_events besides output_of
 ask_line script replica name qtype = refl
+
+-- ---- datagrams
+
+-- a datagram has no events
+pub udp_line : (script : Script) (replica bytes : List ℕ)
+    → run_line script (lines.Udp replica bytes)
+    ≡ (replica_number script replica >>= λ at. slice_get script.world.replicas at >>= λ there.
+    if wants_more script.world at bytes then None else Some (script, as_line (datagram_text (reply_to script.world at bytes))))
+unfolding run_line events_of run_events besides output_of
+udp_line script replica bytes = refl

@@ -1,28 +1,30 @@
 -- A play is one run of its events.
-use Rattle.std.proofs.Common.{◌≡◌, ℕ, ◌+◌, Bool, true, false, cond, List, [], ◌∷◌, ◌++◌, Option, None, Some, refl, ap, sym, ◌∙◌}
+use Rattle.std.proofs.Common.{◌≡◌, ℕ, ◌+◌, Bool, true, false, cond, List, [], ◌∷◌, ◌++◌, Option, None, Some, refl, ap, sym, subst, ◌∙◌}
+use Rattle.std.specs.Prelude.{slice_get}
 use Rattle.dn_io.specs.Lines.{RawLine, is_overlong, lines_of, size_of, text_of}
 use Rattle.dn_io.specs.Options.{◌>>=◌}
 use Rattle.dn_text.specs.Words.{words_of}
-use Rattle.dn_text.proofs.CallerLemmas.{bound, given_is}
+use Rattle.dn_text.proofs.CallerLemmas.{bound, chosen, given_is}
 use Rattle.dn_world.specs.declared.event.WorldAnswer.{WorldAnswer}
 use Rattle.dn_world.specs.declared.event.WorldAnswer.TheVariants.{Made}
 use Rattle.dn_world.specs.declared.event.WorldEvent.{WorldEvent}
 use Rattle.dn_world.specs.declared.world.World.{World}
 use Rattle.dn_world.specs.Ask.{world_reply}
-use Rattle.dn_world.specs.Runs.{AreProper, run_from, wrun}
-use Rattle.dn_world.proofs.CallerLemmas.{run_then, run_world}
+use Rattle.dn_world.specs.Datagram.{reply_to, wants_more}
+use Rattle.dn_world.specs.Runs.{AreProper, IsValidWorld, run_from, wrun}
+use Rattle.dn_world.proofs.CallerLemmas.{run_keeps, run_then, run_valid, run_world}
 use Rattle.dn_script.specs.declared.line.ScriptLine.{ScriptLine}
 use Rattle.dn_script.specs.declared.line.ScriptLine.TheVariants as lines
 use Rattle.dn_script.specs.declared.script.Script.{Script}
 use Rattle.dn_script.specs.Line.{line_of}
-use Rattle.dn_script.specs.Play.{Played, Step, after_event, after_step, at_moment, besides, events_of, events_or_none, line_events, opening, output_of, play, play_lines, replica_number, replied, run_events, run_line, step_text, text_events, with_name}
+use Rattle.dn_script.specs.Play.{Played, Step, after_event, after_step, at_moment, besides, events_of, events_or_none, line_events, opening, output_of, play, play_lines, replica_number, replied, run_events, run_line, sent_back, step_text, text_events, with_name}
 use Rattle.dn_script.specs.Words.{does_nothing}
 use Rattle.dn_script.proofs.ProperLines.{text_proper}
 
 -- ---- one line
 
 -- the world of what is given is this one
-abbrev InWorld : World → Script × List ℕ → Type 0
+abbrev pub InWorld : World → Script × List ℕ → Type 0
 InWorld world after = after.0.world ≡ world
 
 besides_same : (line : ScriptLine) (now after : Script × List ℕ) → besides line now ≡ Some after → InWorld now.0.world after
@@ -39,6 +41,11 @@ besides_same (lines.Ask replica name qtype) now after is =
     bound (InWorld now.0.world) (replica_number now.0 replica) _
     (λ at there. bound (InWorld now.0.world) (world_reply now.0.world at name qtype) _
     (λ reply known one replies. given_is (InWorld now.0.world) (replied now reply) one refl replies)) after is
+besides_same (lines.Udp replica bytes) now after is =
+    bound (InWorld now.0.world) (replica_number now.0 replica) _
+    (λ at there. bound (InWorld now.0.world) (slice_get now.0.world.replicas at) _
+    (λ found known. chosen (InWorld now.0.world) (wants_more now.0.world at bytes) None _ (λ one none. absurd (cc))
+    (λ one replies. given_is (InWorld now.0.world) (sent_back now (reply_to now.0.world at bytes)) one refl replies))) after is
 
 ran_same : (script : Script) (line : ScriptLine) (list : List WorldEvent) (after : Script × List ℕ) → (run_events script list >>= besides line) ≡ Some after
     → InWorld (run_from (script.world, Made) list).0 after
@@ -72,10 +79,20 @@ text_by : (nothing : Bool) (script : Script) (found : Option ScriptLine) (after 
 text_by true script found after is = given_is (InWorld script.world) (script, []) after refl is
 text_by false script found after is = read_runs script found after is
 
-text_runs : (script : Script) (text : List ℕ) (after : Script × List ℕ) → step_text script text ≡ Some after
+pub text_runs : (script : Script) (text : List ℕ) (after : Script × List ℕ) → step_text script text ≡ Some after
     → InWorld (run_from (script.world, Made) (text_events script text)).0 after
 unfolding step_text text_events
 text_runs script text after is = text_by (does_nothing text) script (line_of (words_of text)) after is
+
+-- the world before the first line is valid
+pub opening_valid : IsValidWorld opening.world
+unfolding opening wrun
+opening_valid = run_valid [] tt
+
+-- a line keeps the world valid
+pub text_valid : (script : Script) (text : List ℕ) (after : Script × List ℕ) → IsValidWorld script.world → step_text script text ≡ Some after → IsValidWorld after.0.world
+text_valid script text after valid is =
+    subst IsValidWorld (sym (text_runs script text after is)) (run_keeps (script.world, Made) (text_events script text) valid (text_proper script text))
 
 -- ---- all lines
 

@@ -4,6 +4,7 @@ use Rattle.dn_io.specs.Options.{◌>>=◌}
 use Rattle.dn_name.specs.Name.{IsName, Labels}
 use Rattle.dn_rdata.specs.Types.{A}
 use Rattle.dn_zone.specs.Valid.{IsProperCommand}
+use Rattle.dn_text.specs.Hex.{bytes_of_hex}
 use Rattle.dn_text.specs.Moments.{moment_of}
 use Rattle.dn_text.specs.Names.{name_word}
 use Rattle.dn_text.specs.Numbers.{number_within}
@@ -19,7 +20,7 @@ use Rattle.dn_world.specs.Runs.{AreProper}
 use Rattle.dn_script.specs.declared.line.ScriptLine.{ScriptLine}
 use Rattle.dn_script.specs.declared.line.ScriptLine.TheVariants as lines
 use Rattle.dn_script.specs.declared.script.Script.{Script}
-use Rattle.dn_script.specs.Line.{admin_line, ask_line, at_line, create_line, deliver_line, event_line, join_line, line_of, pass_line, pull_line, replica_line, zone_line}
+use Rattle.dn_script.specs.Line.{admin_line, ask_line, at_line, create_line, deliver_line, event_line, join_line, line_of, pass_line, pull_line, replica_line, udp_line, zone_line}
 use Rattle.dn_script.specs.Play.{events_of, events_or_none, is_new_name, line_events, replica_number, text_events}
 use Rattle.dn_script.specs.Words.{does_nothing}
 use Rattle.dn_script.proofs.PassRuns.{pass_proper}
@@ -34,6 +35,7 @@ IsProperLine (lines.Deliver packet) = Unit {0}
 IsProperLine (lines.At moment) = Unit {0}
 IsProperLine (lines.Admin replica apex cmd) = IsName apex × IsProperCommand cmd
 IsProperLine (lines.Ask replica name qtype) = Unit {0}
+IsProperLine (lines.Udp replica bytes) = Unit {0}
 
 -- ---- lines
 
@@ -128,12 +130,20 @@ proper_ask (replica ∷ name ∷ qtype ∷ []) =
     bound IsProperLine (name_word name) _ (λ its_name named.
     chosen IsProperLine (is_type_a qtype) (Some (lines.Ask replica its_name A)) None (λ line is. given_is IsProperLine (lines.Ask replica its_name A) line tt is) nothing)
 
+proper_udp : (words : List (List ℕ)) → Proper (udp_line words)
+unfolding udp_line
+proper_udp [] = nothing
+proper_udp (replica ∷ []) = nothing
+proper_udp (replica ∷ digits ∷ next ∷ rest) = nothing
+proper_udp (replica ∷ digits ∷ []) = bound IsProperLine (bytes_of_hex digits) _ (λ bytes there line is. given_is IsProperLine (lines.Udp replica bytes) line tt is)
+
 proper_event : (verb : List ℕ) (words : List (List ℕ)) → Proper (event_line verb words)
 unfolding event_line
 proper_event verb words =
     chosen IsProperLine (is_word verb (codes "pull")) (pull_line words) _ (proper_pull words)
     (chosen IsProperLine (is_word verb (codes "deliver")) (deliver_line words) _ (proper_deliver words)
-    (chosen IsProperLine (is_word verb (codes "pass")) (pass_line words) None (proper_pass words) nothing))
+    (chosen IsProperLine (is_word verb (codes "pass")) (pass_line words) _ (proper_pass words)
+    (chosen IsProperLine (is_word verb (codes "udp")) (udp_line words) None (proper_udp words) nothing)))
 
 proper_line : (words : List (List ℕ)) → Proper (line_of words)
 unfolding line_of
@@ -170,6 +180,7 @@ line_proper script (lines.Deliver packet) proper = (tt, tt)
 line_proper script (lines.At moment) proper = tt
 line_proper script (lines.Admin replica apex cmd) proper = found_proper (replica_number script replica) _ (λ at. (proper, tt))
 line_proper script (lines.Ask replica name qtype) proper = tt
+line_proper script (lines.Udp replica bytes) proper = tt
 
 read_proper : (script : Script) (found : Option ScriptLine) → Proper found → AreProper (line_events script found)
 read_proper script None proper = tt

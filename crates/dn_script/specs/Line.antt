@@ -2,6 +2,7 @@
 use Rattle.std.specs.Prelude.{ℕ, if◌then◌else◌, List, [], ◌∷◌, codes, Option, None, Some}
 use Rattle.dn_io.specs.Options.{◌>>=◌}
 use Rattle.dn_rdata.specs.Types.{A}
+use Rattle.dn_text.specs.Hex.{bytes_of_hex}
 use Rattle.dn_text.specs.Moments.{moment_of}
 use Rattle.dn_text.specs.Names.{name_word}
 use Rattle.dn_text.specs.Numbers.{number_within}
@@ -64,6 +65,13 @@ ask_line (replica ∷ name ∷ qtype ∷ []) = do
   if is_type_a qtype then Some (lines.Ask replica its_name A) else None
 ask_line words = None
 
+-- `udp R HEX`
+unfoldable pub udp_line : List (List ℕ) → Option ScriptLine
+udp_line (replica ∷ digits ∷ []) = do
+  bytes ← bytes_of_hex digits
+  Some (lines.Udp replica bytes)
+udp_line words = None
+
 -- `pull B A Z`
 unfoldable pub pull_line : List (List ℕ) → Option ScriptLine
 pull_line (replica ∷ supplier ∷ apex ∷ []) = do
@@ -85,12 +93,13 @@ pass_line (replica ∷ apex ∷ []) = do
   Some (lines.Pass replica its_apex)
 pass_line words = None
 
--- the lines about packets and passes
+-- the lines about packets, passes and datagrams
 unfoldable pub event_line : List ℕ → List (List ℕ) → Option ScriptLine
 event_line verb words =
     if is_word verb (codes "pull") then pull_line words
     else (if is_word verb (codes "deliver") then deliver_line words
-    else (if is_word verb (codes "pass") then pass_line words else None))
+    else (if is_word verb (codes "pass") then pass_line words
+    else (if is_word verb (codes "udp") then udp_line words else None)))
 
 -- a line of a script, by its words
 unfoldable pub line_of : List (List ℕ) → Option ScriptLine

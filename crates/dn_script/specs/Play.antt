@@ -1,7 +1,7 @@
 -- What a script does: the events of its lines, what it prints, and how it ends.
 pub mod Stepped
 pub mod Turns
-use Rattle.std.specs.Prelude.{◌≡◌, ℕ, ◌+◌, Bool, not, if◌then◌else◌, nat_eq, List, [], ◌∷◌, ◌++◌, position, Option, None, Some}
+use Rattle.std.specs.Prelude.{◌≡◌, ℕ, ◌+◌, Bool, not, if◌then◌else◌, nat_eq, List, [], ◌∷◌, ◌++◌, position, slice_get, Option, None, Some}
 use Rattle.std.specs.List.{list_any}
 use Rattle.std.specs.Io.KnownBytes.{Appends}
 use lib.Pointwise.{pointwise}
@@ -19,6 +19,7 @@ use Rattle.dn_world.specs.declared.event.WorldEvent.{WorldEvent}
 use Rattle.dn_world.specs.declared.event.WorldEvent.TheVariants.{Act, Create, Deliver, Join, Pull, Replica}
 use Rattle.dn_world.specs.declared.world.World.{World}
 use Rattle.dn_world.specs.Ask.{world_reply}
+use Rattle.dn_world.specs.Datagram.{reply_to, wants_more}
 use Rattle.dn_world.specs.Runs.{run_from}
 use Rattle.dn_world.specs.World.{empty_world}
 use Rattle.dn_text.specs.Print.{as_line}
@@ -29,7 +30,7 @@ use Rattle.dn_script.specs.declared.line.ScriptLine.TheVariants as lines
 use Rattle.dn_script.specs.declared.script.Script.{Script}
 use Rattle.dn_script.specs.Line.{line_of}
 use Rattle.dn_script.specs.Passes.{pass_events}
-use Rattle.dn_script.specs.Print.{packet_text}
+use Rattle.dn_script.specs.Print.{datagram_text, packet_text}
 use Rattle.dn_script.specs.PrintReply.{reply_text}
 use Rattle.dn_script.specs.Words.{does_nothing}
 
@@ -92,6 +93,7 @@ events_of script (lines.Admin replica apex cmd) = do
   at ← replica_number script replica
   Some (Act at apex (Admin cmd script.moment) ∷ [])
 events_of script (lines.Ask replica name qtype) = Some []
+events_of script (lines.Udp replica bytes) = Some []
 
 abbrev pub with_name : List ℕ → Script × List ℕ → Script × List ℕ
 with_name name (script, output) = (record script { names = script.names ++ name ∷ [] }, output)
@@ -102,7 +104,12 @@ at_moment moment (script, output) = (record script { moment = moment }, output)
 abbrev pub replied : Script × List ℕ → AnswerValue → Script × List ℕ
 replied (script, output) reply = (script, output ++ reply_text reply)
 
--- What a line does besides its events: a replica has its name, the moment is set, a question is answered.
+-- what came back to a datagram
+abbrev pub sent_back : Script × List ℕ → List ℕ → Script × List ℕ
+sent_back (script, output) reply = (script, output ++ as_line (datagram_text reply))
+
+-- What a line does besides its events: a replica has its name, the moment is set, a question or a datagram is answered. A
+-- datagram that replicas can't answer yet is no line.
 unfoldable pub besides : ScriptLine → Script × List ℕ → Step
 besides (lines.Replica name id host) after = Some (with_name name after)
 besides (lines.Create replica apex mailbox) after = Some after
@@ -116,6 +123,10 @@ besides (lines.Ask replica name qtype) after = do
   at ← replica_number after.0 replica
   reply ← world_reply after.0.world at name qtype
   Some (replied after reply)
+besides (lines.Udp replica bytes) after = do
+  at ← replica_number after.0 replica
+  there ← slice_get after.0.world.replicas at
+  if wants_more after.0.world at bytes then None else Some (sent_back after (reply_to after.0.world at bytes))
 
 -- a line runs its events
 unfoldable pub run_line : Script → ScriptLine → Step

@@ -1,6 +1,7 @@
 //! Scripts: replicas, zones, commands and questions as lines of text, and the transcript that they give.
 #![tactic(auto)]
 
+mod asking;
 mod bad;
 mod laws;
 mod line;

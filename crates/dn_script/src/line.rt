@@ -1,5 +1,5 @@
 ghost use Rattle.std.specs.Prelude.{◌≡◌, map};
-ghost use Rattle.dn_script.specs.Line.{admin_line, ask_line, at_line, create_line, deliver_line, event_line, join_line, line_of, pass_line, pull_line, replica_line, zone_line};
+ghost use Rattle.dn_script.specs.Line.{admin_line, ask_line, at_line, create_line, deliver_line, event_line, join_line, line_of, pass_line, pull_line, replica_line, udp_line, zone_line};
 ghost use Rattle.dn_text.specs.Reading.{Reads};
 
 use dn_admin::command_of;
@@ -8,7 +8,8 @@ use dn_name::Name;
 use dn_rdata::A;
 use dn_stamp::ReplicaId;
 use dn_text::{
-    TextError, id_of, is_replica_name, is_type_a, is_word, moment_of, name_of, number_of,
+    TextError, bytes_of_hex, id_of, is_replica_name, is_type_a, is_word, moment_of, name_of,
+    number_of,
 };
 use dn_zone::AdminCmd;
 use std::alloc::Global;
@@ -63,6 +64,11 @@ pub enum ScriptLine {
         replica: List<u8>,
         name: Name,
         qtype: u16,
+    },
+    /// `udp R HEX`
+    Udp {
+        replica: List<u8>,
+        bytes: List<u8>,
     },
 }
 
@@ -185,6 +191,20 @@ fn ask_line(alloc: Global, words: &[&[u8]]) -> Result<ScriptLine, TextError>
     })
 }
 
+#[tactic(auto, unfolding(crate::specs::Line::udp_line))]
+fn udp_line(alloc: Global, words: &[&[u8]]) -> Result<ScriptLine, TextError>
+    ensures { Reads result (udp_line (map (λ word. word.now) words.now)) }
+{
+    let [replica, digits] = words else {
+        return Err(TextError::BadText);
+    };
+    let bytes = bytes_of_hex(alloc, digits)?;
+    Ok(ScriptLine::Udp {
+        replica: List::from_slice(alloc, replica)?,
+        bytes,
+    })
+}
+
 #[tactic(auto, unfolding(crate::specs::Line::pull_line))]
 fn pull_line(alloc: Global, words: &[&[u8]]) -> Result<ScriptLine, TextError>
     ensures { Reads result (pull_line (map (λ word. word.now) words.now)) }
@@ -239,6 +259,8 @@ fn event_line(alloc: Global, verb: &[u8], words: &[&[u8]]) -> Result<ScriptLine,
         deliver_line(words).ok_or(TextError::BadText)
     } else if is_word(verb, b"pass") {
         pass_line(alloc, words)
+    } else if is_word(verb, b"udp") {
+        udp_line(alloc, words)
     } else {
         Err(TextError::BadText)
     }

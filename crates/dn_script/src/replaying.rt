@@ -1,5 +1,6 @@
-ghost use Rattle.std.specs.Prelude.{◌≡◌, ◌≢◌, ◌+◌, ◌≤◌, None, IfOk, IsErrOf};
+ghost use Rattle.std.specs.Prelude.{◌≡◌, ◌≢◌, ◌+◌, ◌≤◌, None, IfOk, IsErrOf, OnOk};
 ghost use Rattle.dn_io.specs.Outside.{Rose, Told};
+ghost use Rattle.dn_world.specs.Runs.{IsValidWorld};
 ghost use Rattle.dn_script.specs.Play.{Ended, play};
 ghost use Rattle.dn_script.specs.Play.Turns.{Advanced, RunsText, Turns, last_status, play_ahead, status_of};
 
@@ -26,7 +27,9 @@ fn run_text<K: Sink>(
     script: &mut Script,
     sink: &mut K,
 ) -> Result<(), Status>
+    requires { IsValidWorld script.old.world }
     ensures runs { RunsText result number script.old script.new text.now (K.written sink.old) (K.written sink.new) }
+    ensures valid { OnOk result (IsValidWorld script.new.world) }
     ensures write { IsErrOf result Status.WriteFault → Rose (K.faults sink.old) (K.faults sink.new) }
     ensures later { K.faults sink.old ≤ K.faults sink.new }
 {
@@ -49,10 +52,12 @@ fn turn<S: Source, K: Sink>(
     script: &mut Script,
     sink: &mut K,
 ) -> Result<bool, Status>
-    requires { lines.old.kept ≡ None }
+    requires kept { lines.old.kept ≡ None }
+    requires valid { IsValidWorld script.old.world }
     ensures turns { Told (S.left source.old) (S.left source.new) (λ before now.
         Turns result (play_ahead number lines.old before script.old) (play_ahead (number + 1) lines.new now script.new)
         now (K.written sink.old) (K.written sink.new)) }
+    ensures valid { OnOk result (IsValidWorld script.new.world) }
     ensures advances { IfOk result (λ more. Advanced more lines.old lines.new) }
     ensures read { IsErrOf result Status.ReadFault → Rose (S.faults source.old) (S.faults source.new) }
     ensures write { IsErrOf result Status.WriteFault → Rose (K.faults sink.old) (K.faults sink.new) }
@@ -81,6 +86,7 @@ fn all_lines<S: Source, K: Sink>(
 ) -> Result<(), Status>
     requires kept { lines.old.kept ≡ None }
     requires taken { lines.old.taken ≡ 0 }
+    requires valid { IsValidWorld script.old.world }
     ensures transcript { Told (S.left source.old) (S.left source.new) (λ before now.
         Ended (play_ahead 1 lines.old before script.old) (last_status result) now (K.written sink.old) (K.written sink.new)) }
     ensures read { IsErrOf result Status.ReadFault → Rose (S.faults source.old) (S.faults source.new) }

@@ -1,12 +1,14 @@
 ghost use Rattle.std.specs.Prelude.{◌≡◌, [], ◌∷◌};
 ghost use Rattle.dn_script.specs.Play.{opening, output_of, replica_number, run_events, run_line, step_text};
+ghost use Rattle.dn_world.specs.Runs.{IsValidWorld};
 ghost use Rattle.dn_script.specs.Play.Stepped.{Gives, GivesOrRefuses, Steps};
 
+use crate::asking::{value_in, write_question};
 use crate::bad::Bad;
 use crate::line::{ScriptLine, line_of};
 use crate::names::Names;
 use crate::passes::whole_pass;
-use crate::print::packet_line;
+use crate::print::{datagram_line, packet_line};
 use crate::print_reply::reply_text;
 use crate::words::does_nothing;
 use dn_admin::answer_line;
@@ -171,21 +173,59 @@ impl Script {
         self.run_event(alloc, &event)
     }
 
-    // What a replica replies to a question.
+    // What a replica replies to a question, which it gets and answers in bytes.
     #[tactic(auto, using(crate::proofs::LineLemmas::ask_line))]
-    fn ask(&self, alloc: Global, replica: &[u8], name: &Name, qtype: u16) -> Result<List<u8>, Bad>
-        ensures { Steps result self.now (run_line self.now (ScriptLine.Ask replica.now name.now qtype)) }
+    fn ask(
+        &mut self,
+        alloc: Global,
+        replica: &[u8],
+        name: &Name,
+        qtype: u16,
+    ) -> Result<List<u8>, Bad>
+        requires { IsValidWorld self.old.world }
+        ensures { Steps result self.new (run_line self.old (ScriptLine.Ask replica.now name.now qtype)) }
     {
         let at = self.replica_number(replica)?;
-        match self.world.reply(alloc, at, name, qtype)? {
-            Some(reply) => Ok(reply_text(alloc, &reply)?),
-            None => Err(Bad::Line),
+        if at >= self.world.replicas.len() {
+            return Err(Bad::Line);
         }
+        let mut request = [0u8; 512];
+        let len = write_question(name, qtype, &mut request);
+        let (question, _) = request.split_at(len);
+        let mut out = [0u8; 512];
+        let len = self
+            .world
+            .datagram(alloc, at, self.moment, question, &mut out)?;
+        let (reply, _) = out.split_at(len);
+        let value = value_in(alloc, reply)?;
+        Ok(reply_text(alloc, &value)?)
+    }
+
+    // What a replica replies to a datagram, which it gets at the script's moment.
+    #[tactic(auto, using(crate::proofs::LineLemmas::udp_line))]
+    fn udp(&mut self, alloc: Global, replica: &[u8], bytes: &[u8]) -> Result<List<u8>, Bad>
+        requires { IsValidWorld self.old.world }
+        ensures { Steps result self.new (run_line self.old (ScriptLine.Udp replica.now bytes.now)) }
+    {
+        let at = self.replica_number(replica)?;
+        if at >= self.world.replicas.len() {
+            return Err(Bad::Line);
+        }
+        if self.world.wants_more(at, bytes) {
+            return Err(Bad::Line);
+        }
+        let mut out = [0u8; 512];
+        let len = self
+            .world
+            .datagram(alloc, at, self.moment, bytes, &mut out)?;
+        let (reply, _) = out.split_at(len);
+        Ok(datagram_line(alloc, reply)?)
     }
 
     // Runs a line, and answers what it prints.
     #[tactic(auto, using(crate::proofs::LineLemmas::at_line, crate::proofs::LineLemmas::deliver_line))]
     fn run_line(&mut self, alloc: Global, line: ScriptLine) -> Result<List<u8>, Bad>
+        requires { IsValidWorld self.old.world }
         ensures { Steps result self.new (run_line self.old line) }
     {
         match line {
@@ -217,6 +257,9 @@ impl Script {
                 name,
                 qtype,
             } => self.ask(alloc, replica.as_slice(), &name, qtype),
+            ScriptLine::Udp { replica, bytes } => {
+                self.udp(alloc, replica.as_slice(), bytes.as_slice())
+            }
         }
     }
 
@@ -226,6 +269,7 @@ impl Script {
     // `Line` exactly where the line isn't valid, `Memory` where memory wasn't to be had.
     #[tactic(auto, unfolding(crate::specs::Play::step_text))]
     pub fn step(&mut self, alloc: Global, text: &[u8]) -> Result<List<u8>, Bad>
+        requires { IsValidWorld self.old.world }
         ensures { Steps result self.new (step_text self.old text.now) }
     {
         let Ok(words) = words_of(alloc, text) else {

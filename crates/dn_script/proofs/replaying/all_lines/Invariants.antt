@@ -1,11 +1,13 @@
 use Rattle.std.proofs.Common.{◌≡◌, ◌+◌, ◌-◌, ◌^◌, ◌≤◌, None}
 use Rattle.dn_io.specs.Outside.{Told}
+use Rattle.dn_world.specs.Runs.{IsValidWorld}
 use Rattle.dn_script.specs.Play.Turns.{GoesOn, play_ahead}
 use Rattle.dn_script.proofs.replaying.all_lines.Given as goal
 
 abbrev pub invariant-loop-number : goal.invariant-loop-number
 invariant-loop-number g l = record {
   kept : l.lines.kept ≡ None;
+  valid : IsValidWorld l.script.world;
   number : l.number ≤ l.lines.taken + 1;
   taken : l.lines.taken ≤ 2 ^ 30;
   play : Told (g.S.Source.left l.fn.source) (g.S.Source.left l.source) (λ before now.

@@ -1,0 +1,17 @@
+use Rattle.std.proofs.Common.{arith, sym, ◌∙◌}
+use Rattle.dn_script.proofs.AskLemmas.{udp_done, udp_missing, udp_wanting}
+use Rattle.dn_script.proofs.script.Script.udp.Goals as goal
+
+pub returns-then-at-len : goal.returns-then-at-len
+returns-then-at-len c = udp_missing c.args.self.now c.args.replica.now c.in_ok-at.at c.in_ok-at.ensures c.args.bytes.now (omega (arith, c.if-at-len.true, c.len.ensures))
+
+pub returns-then-wants_more : goal.returns-then-wants_more
+returns-then-wants_more c =
+    udp_wanting c.args.self.now c.args.replica.now c.in_ok-at.at c.in_ok-at.ensures c.args.bytes.now (omega (arith, c.if-at-len.false, c.len.ensures))
+    (sym c.wants_more.ensures ∙ c.if-wants_more.true)
+
+pub returns : goal.returns
+returns c =
+    udp_done c.args.self.now c.args.replica.now c.in_ok-at.at c.in_ok-at.ensures c.args.bytes.now (omega (arith, c.if-at-len.false, c.len.ensures))
+    (sym c.wants_more.ensures ∙ c.if-wants_more.false) c.datagram.new.self c.datagram.ensures.stays c.split_at.result.0.now c.in_ok-datagram_line.field-0
+    (c.split_at.ensures.front ∙ c.in_ok-len.ensures.bytes) c.in_ok-datagram_line.ensures
