@@ -4,6 +4,8 @@
 #[cfg(test)]
 mod answers;
 #[cfg(test)]
+mod datagrams;
+#[cfg(test)]
 mod fixtures;
 #[cfg(test)]
 mod io;

@@ -1,9 +1,6 @@
-use crate::fixtures::{crosses, is_on_wire, name};
-use dn_answer::AnswerValue;
+use crate::fixtures::{crosses, name};
 use dn_io::Moment;
-use dn_message::Rcode;
 use dn_name::Name;
-use dn_rdata::A;
 use dn_stamp::ReplicaId;
 use dn_world::{World, WorldAnswer, WorldEvent, WorldNo};
 use dn_zone::{Answer, Event};
@@ -223,76 +220,4 @@ fn a_world_has_64_replicas_of_16_zones(rt: HostRuntime) {
         check_no(&rt, alloc, &mut world, deed, text, want);
     }
     check_made(&rt, alloc, &mut world, Deed::Create(62), "z16");
-}
-
-/// The world of two replicas, the first of which has zones in one another and one beside them.
-fn nested(rt: &impl Abort, alloc: Global) -> World {
-    let mut world = World::new(alloc);
-    check_made(rt, alloc, &mut world, Deed::Replica(1), "x");
-    check_made(rt, alloc, &mut world, Deed::Replica(2), "x");
-    check_made(rt, alloc, &mut world, Deed::Create(0), "a.X");
-    check_made(rt, alloc, &mut world, Deed::Create(0), "x");
-    check_made(rt, alloc, &mut world, Deed::Create(0), "b.a.x");
-    check_made(rt, alloc, &mut world, Deed::Create(0), "y");
-    world
-}
-
-/// The first row beside the answer is of this name on the wire, or there is none and the name is empty.
-fn is_beside(reply: &AnswerValue, apex: &[u8]) -> bool {
-    match reply.authority.get(0) {
-        Some(row) => is_on_wire(&row.name, apex),
-        None => apex.is_empty(),
-    }
-}
-
-/// The replica answers with this code and the SOA of this zone.
-fn check_nearest(
-    rt: &impl Abort,
-    alloc: Global,
-    world: &World,
-    at: usize,
-    asked: &str,
-    rcode: Rcode,
-    apex: &str,
-) {
-    let reply = world
-        .reply(alloc, at, &name(rt, asked), A)
-        .expect(rt, "memory")
-        .expect(rt, "the replica is there");
-    assert_eq!(rt; reply.rcode, rcode, "of {asked}");
-    assert!(rt; is_beside(&reply, apex.as_bytes()), "of {asked}");
-}
-
-/// The replica has no zone of the name, and refuses.
-fn check_no_zone(rt: &impl Abort, alloc: Global, world: &World, at: usize, asked: &str) {
-    check_nearest(rt, alloc, world, at, asked, Rcode::Refused, "");
-}
-
-/// The first replica has no name as is asked, in this zone.
-fn check_no_name(rt: &impl Abort, alloc: Global, world: &World, asked: &str, apex: &str) {
-    check_nearest(rt, alloc, world, 0, asked, Rcode::NxDomain, apex);
-}
-
-// The SOA beside a negative answer is that of the zone that answers.
-#[test]
-fn the_nearest_zone_answers(rt: HostRuntime) {
-    let alloc = rt.alloc();
-    let world = nested(&rt, alloc);
-    check_no_name(&rt, alloc, &world, "www.A.x", "\x01a\x01x\0");
-    check_no_name(&rt, alloc, &world, "c.b.a.x", "\x01b\x01a\x01x\0");
-    check_nearest(&rt, alloc, &world, 0, "x", Rcode::NoError, "\x01x\0");
-    for (at, asked) in [(0, "z"), (0, "."), (1, "x")] {
-        check_no_zone(&rt, alloc, &world, at, asked);
-    }
-}
-
-// A number behind the last replica's has no reply.
-#[test]
-fn another_replica_is_silent(rt: HostRuntime) {
-    let alloc = rt.alloc();
-    let world = nested(&rt, alloc);
-    let reply = world
-        .reply(alloc, 2, &name(&rt, "x"), A)
-        .expect(&rt, "memory");
-    assert!(rt; reply.is_none());
 }
