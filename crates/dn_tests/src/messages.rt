@@ -1,6 +1,7 @@
 ghost use Rattle.std.specs.Prelude.{◌≡◌, false};
 
 use crate::fixtures::is_on_wire;
+use dn_io::List;
 use dn_message::{FormError, FormFault, Kind, Opt, Query, kind_of, read_query, write_query};
 use dn_name::{NameFault, NoRoom};
 use std::process::Abort;
@@ -145,9 +146,40 @@ fn names_that_lead_nowhere(rt: HostRuntime) {
     );
     check_fault(
         &rt,
+        b"\x12\x34\x01\0\0\x01\0\0\0\0\0\0\xc0\x0e\0\x01\0\x01",
+        12,
+        FormFault::Name(NameFault::BadPointer),
+    );
+    check_fault(
+        &rt,
         b"\x12\x34\x01\0\0\x01\0\0\0\0\0\x01\x01h\x01x\0\0\x01\0\x01\x01a\xc0\x15\0\x01\0\x01\0\0\0\0\0\0",
         23,
         FormFault::Name(NameFault::BadPointer),
+    );
+}
+
+/// Appends a label of so many letters.
+fn push_label(rt: &impl Abort, message: &mut List<u8>, len: u8) {
+    message.push(len).expect(rt, "memory");
+    for _ in 0..len {
+        message.push(b'a').expect(rt, "memory");
+    }
+}
+
+// The name of 256 bytes passes the limit at its fourth label, which begins at 204.
+#[test]
+fn a_name_that_is_too_long(rt: HostRuntime) {
+    let header = b"\x12\x34\x01\0\0\x01\0\0\0\0\0\0";
+    let mut message = List::from_slice(rt.alloc(), header).expect(&rt, "memory");
+    for len in [63, 63, 63, 62] {
+        push_label(&rt, &mut message, len);
+    }
+    message.extend(b"\0\0\x01\0\x01").expect(&rt, "memory");
+    check_fault(
+        &rt,
+        message.as_slice(),
+        204,
+        FormFault::Name(NameFault::NameTooLong),
     );
 }
 
