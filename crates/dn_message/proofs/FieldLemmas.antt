@@ -3,7 +3,7 @@ use Rattle.std.proofs.Common.{◌≡◌, ℕ, ◌+◌, ◌/◌, ◌%◌, ◌<◌
 use Rattle.dn_rdata.specs.Laid.{Stands}
 use Rattle.dn_message.specs.Fields.{two_bytes}
 use Rattle.dn_message.specs.Reading.{IsTypeAndClass}
-pub use Rattle.dn_message.specs.Decisions.Standing.{any_laid, any_stands, stands}
+pub use Rattle.dn_message.specs.Decisions.Standing.{any_laid, any_stands, six_stand, stands}
 
 -- two numbers with equal bytes are equal
 pub two_once : (left right : ℕ) → left / 256 ≡ right / 256 → left % 256 ≡ right % 256 → left ≡ right

@@ -22,7 +22,7 @@ use Rattle.dn_message.specs.Reply.{AreQuestions, FlagsSay, IsQuestion, IsReply}
 use Rattle.dn_message.specs.Short.{short_bytes, short_of}
 use Rattle.dn_message.specs.Writer.{AreValid, IsAsked, IsRow}
 use Rattle.dn_message.specs.Writing.{kind_bytes}
-use Rattle.dn_message.proofs.FieldLemmas.{any_laid, stands}
+use Rattle.dn_message.proofs.FieldLemmas.{any_laid, six_stand, stands}
 use Rattle.dn_message.proofs.PieceLemmas.{bytes_size, question_size, row_size}
 use Rattle.dn_message.proofs.WritingLemmas.{wire_size}
 
@@ -82,14 +82,8 @@ flags_say reply fit =
 pub header_stands : (message : List ℕ) (number flags : ℕ) (counts : Counts) (back : List ℕ) → message ≡ header_with number flags counts ++ back
     → IsHeader message number flags counts.questions counts.answer counts.authority counts.additional
 header_stands message number flags counts back e =
-    subst (λ xs. IsHeader xs number flags counts.questions counts.answer counts.authority counts.additional) (sym e) (record {
-      number_stands = record { bytes = refl; next_is = refl };
-      flags_stand = record { bytes = refl; next_is = refl };
-      questions_stand = record { bytes = refl; next_is = refl };
-      answers_stand = record { bytes = refl; next_is = refl };
-      authorities_stand = record { bytes = refl; next_is = refl };
-      additional_stand = record { bytes = refl; next_is = refl };
-    })
+    subst (λ xs. IsHeader xs number flags counts.questions counts.answer counts.authority counts.additional) (sym e)
+    (six_stand number flags counts.questions counts.answer counts.authority counts.additional back)
 
 -- ---- the sections
 

@@ -14,7 +14,7 @@ use Rattle.dn_message.specs.Header.{IsHeader, is_recursion_desired}
 use Rattle.dn_message.specs.Query.{HasOpt, IsQuery, is_opt, is_signature, opt_of}
 use Rattle.dn_message.specs.Record.{AreRrs, IsRr, any_data, fields}
 use Rattle.dn_message.specs.Writing.{Appends, additional_bytes, additional_of, header_bytes, kind_bytes, opt_bytes, opt_row, query_bytes}
-use Rattle.dn_message.proofs.FieldLemmas.{any_laid, stands}
+use Rattle.dn_message.proofs.FieldLemmas.{any_laid, six_stand, stands}
 
 -- one piece behind another
 pub appends_then : (at mid next : ℕ) (old between new piece more : List ℕ) → Appends at old piece mid between → Appends mid between more next new → Appends at old (piece ++ more) next new
@@ -65,38 +65,10 @@ module _ (id : ℕ) (name : Labels) (qtype qclass : ℕ) (is_name : IsName name)
   behind = 12 + wire_len name
 
   header_is : (rd : Bool) (opt : Option Opt) → IsHeader (message_of rd opt) id (flags_of rd) 1 0 0 (length (additional_of opt))
-  header_is true None = record {
-    number_stands = record { bytes = refl; next_is = refl };
-    flags_stand = record { bytes = refl; next_is = refl };
-    questions_stand = record { bytes = refl; next_is = refl };
-    answers_stand = record { bytes = refl; next_is = refl };
-    authorities_stand = record { bytes = refl; next_is = refl };
-    additional_stand = record { bytes = refl; next_is = refl };
-  }
-  header_is true (Some opt) = record {
-    number_stands = record { bytes = refl; next_is = refl };
-    flags_stand = record { bytes = refl; next_is = refl };
-    questions_stand = record { bytes = refl; next_is = refl };
-    answers_stand = record { bytes = refl; next_is = refl };
-    authorities_stand = record { bytes = refl; next_is = refl };
-    additional_stand = record { bytes = refl; next_is = refl };
-  }
-  header_is false None = record {
-    number_stands = record { bytes = refl; next_is = refl };
-    flags_stand = record { bytes = refl; next_is = refl };
-    questions_stand = record { bytes = refl; next_is = refl };
-    answers_stand = record { bytes = refl; next_is = refl };
-    authorities_stand = record { bytes = refl; next_is = refl };
-    additional_stand = record { bytes = refl; next_is = refl };
-  }
-  header_is false (Some opt) = record {
-    number_stands = record { bytes = refl; next_is = refl };
-    flags_stand = record { bytes = refl; next_is = refl };
-    questions_stand = record { bytes = refl; next_is = refl };
-    answers_stand = record { bytes = refl; next_is = refl };
-    authorities_stand = record { bytes = refl; next_is = refl };
-    additional_stand = record { bytes = refl; next_is = refl };
-  }
+  header_is true None = six_stand id 256 1 0 0 0 (wire_of name ++ rest_of None)
+  header_is true (Some opt) = six_stand id 256 1 0 0 1 (wire_of name ++ rest_of (Some opt))
+  header_is false None = six_stand id 0 1 0 0 0 (wire_of name ++ rest_of None)
+  header_is false (Some opt) = six_stand id 0 1 0 0 1 (wire_of name ++ rest_of (Some opt))
 
   behind_name : (rd : Bool) (opt : Option Opt) → drop behind (message_of rd opt) ≡ rest_of opt
   behind_name rd opt = sym (drop-drop (wire_len name) 12 (message_of rd opt)) ∙ drop_at (wire_of name) (rest_of opt) (wire_len name) (wire_size name)

@@ -11,7 +11,7 @@ use Rattle.dn_message.specs.declared.query.Query.{Query}
 use Rattle.dn_message.specs.declared.rr.Rr.{Rr}
 use Rattle.dn_message.specs.Decisions.Fronts.{Fronts, both, both_bytes, two}
 use Rattle.dn_message.specs.Decisions.Records.{AreRows, rows_or_not}
-use Rattle.dn_message.specs.Decisions.Standing.{stands}
+use Rattle.dn_message.specs.Decisions.Standing.{six_stand, stands}
 use Rattle.dn_message.specs.Fields.{two_bytes}
 use Rattle.dn_message.specs.Header.{IsHeader, is_recursion_desired}
 use Rattle.dn_message.specs.Query.{HasOpt, IsQuery, is_opt, is_signature, opt_of}
@@ -61,14 +61,7 @@ six_or_not =
 header_stands : (message : List ℕ) (six : Six) (rest : List ℕ) → message ≡ six_bytes six ++ rest → IsHeader message six.0 six.1.0 six.1.1.0 six.1.1.1.0 six.1.1.1.1.0 six.1.1.1.1.1
 header_stands message six rest e =
     subst (λ m. IsHeader m six.0 six.1.0 six.1.1.0 six.1.1.1.0 six.1.1.1.1.0 six.1.1.1.1.1) (sym e)
-    (record {
-      number_stands = record { bytes = refl; next_is = refl };
-      flags_stand = record { bytes = refl; next_is = refl };
-      questions_stand = record { bytes = refl; next_is = refl };
-      answers_stand = record { bytes = refl; next_is = refl };
-      authorities_stand = record { bytes = refl; next_is = refl };
-      additional_stand = record { bytes = refl; next_is = refl };
-    })
+    (six_stand six.0 six.1.0 six.1.1.0 six.1.1.1.0 six.1.1.1.1.0 six.1.1.1.1.1 rest)
 
 six_in : (message : List ℕ) (six : Six) → IsHeader message six.0 six.1.0 six.1.1.0 six.1.1.1.0 six.1.1.1.1.0 six.1.1.1.1.1 → message ≡ six_bytes six ++ drop 12 message
 six_in message six is =
