@@ -59,6 +59,7 @@ next_version stamp more =
 one_valid : (apex : Labels) (rules : ZoneRules) (ticks : ℕ) (id : ReplicaId) (unit : units.Unit) → IsValidUnit apex unit → is_swept rules ticks unit ≡ true → IsValidWrite apex (swept rules ticks id unit)
 unfolding swept is_swept
 one_valid apex rules ticks id unit valid is = record {
+  named = valid.named;
   allowed = becomes_ok apex rules ticks unit.key unit.value valid.allowed;
   records = becomes_has rules ticks unit.value valid.records;
   fitting = fits_swept rules ticks id unit valid.fitting;

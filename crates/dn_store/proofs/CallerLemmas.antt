@@ -4,7 +4,7 @@ pub use Rattle.dn_store.proofs.AheadLemmas.{AreThere, Here, ahead, ahead_taken, 
 pub use Rattle.dn_store.proofs.CountLemmas.{count_cons, count_mono, count_none, either, none_counted, ones, ones_mono, past}
 pub use Rattle.dn_store.proofs.DataLemmas.{HasOwnData, node_has, rows_at_have, rows_have, units_have}
 pub use Rattle.dn_store.proofs.FoundLemmas.{IsFoundBy, found_all, key_at}
-pub use Rattle.dn_store.proofs.ListLemmas.{all_both, all_filter, all_join, all_map, all_of, all_passes, all_take, all_then, filter_all, filter_within, sorted_take, take_next, take_over}
+pub use Rattle.dn_store.proofs.ListLemmas.{all_both, all_filter, all_found, all_join, all_map, all_of, all_passes, all_take, all_then, filter_all, filter_within, sorted_take, take_next, take_over}
 pub use Rattle.dn_store.proofs.LoweredLemmas.{lower_lowered, same_lower}
 pub use Rattle.dn_store.proofs.NodeLemmas.{IsNode, node_ok, node_parts}
 pub use Rattle.dn_store.proofs.OrderLemmas.{IsAfter, differ_map, key_total, less_from, unit_order}
@@ -15,7 +15,7 @@ pub use Rattle.dn_store.proofs.TakenCounts.{all_taken_old, count_taken_old, is_w
 pub use Rattle.dn_store.proofs.TakenLemmas.{IsSoundList, all_placed, all_taken, length_bound, sound_taken}
 pub use Rattle.dn_store.proofs.TakenLemmas.{by_order}
 pub use Rattle.dn_store.proofs.TakenRows.{Brings, rows_taken}
-pub use Rattle.dn_store.proofs.ValidLemmas.{run_valid, valid_at, valid_taken}
+pub use Rattle.dn_store.proofs.ValidLemmas.{run_valid, units_named, valid_at, valid_taken}
 -- dn_name's on names in lower case
 pub use Rattle.dn_name.proofs.CallerLemmas.{name_lowered}
 -- std's lemmas on tests

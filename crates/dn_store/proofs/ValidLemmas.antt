@@ -1,4 +1,4 @@
--- Valid writes make valid units, and the units of a table are sent as valid writes.
+-- Valid writes make valid units, the units of a table are sent as valid writes, and the keys of valid units are names.
 use Rattle.std.proofs.Common.{◌≡◌, ℕ, ◌<◌, List, map, Some}
 use Rattle.std.specs.List.{AllByRecursion}
 use Rattle.dn_name.specs.Name.{Labels}
@@ -6,7 +6,7 @@ use Rattle.dn_store.specs.declared.unit.Unit as units
 use Rattle.dn_store.specs.declared.unit.UnitKey.{UnitKey}
 use Rattle.dn_store.specs.declared.unit.Write.{Write}
 use Rattle.dn_store.specs.Table.{has_key, numbered, run_after, taken, unit_at, write_of}
-use Rattle.dn_store.specs.Valid.{IsValidUnit, IsValidWrite}
+use Rattle.dn_store.specs.Valid.{IsNamedKey, IsValidUnit, IsValidWrite}
 use Rattle.dn_store.proofs.ListLemmas.{all_found, all_map, all_then}
 use Rattle.dn_store.proofs.RunLemmas.{run_all}
 use Rattle.dn_store.proofs.TakenLemmas.{all_brought}
@@ -22,3 +22,7 @@ run_valid apex usn room top list valid = all_map (IsValidWrite apex) write_of (r
 
 pub valid_at : (apex : Labels) (key : UnitKey) (list : List units.Unit) (unit : units.Unit) → AllByRecursion (IsValidUnit apex) list → unit_at key list ≡ Some unit → IsValidUnit apex unit
 valid_at apex key list unit valid is = all_found (IsValidUnit apex) (has_key key) list unit valid is
+
+-- the key of each unit
+pub units_named : (apex : Labels) (list : List units.Unit) → AllByRecursion (IsValidUnit apex) list → AllByRecursion (λ unit. IsNamedKey unit.key) list
+units_named apex list valid = all_then (IsValidUnit apex) (λ unit. IsNamedKey unit.key) list (λ unit is. is.named) valid

@@ -1,10 +1,11 @@
--- What is to be written where a record with data of its type is added may stand in the zone, where its units are valid.
+-- What is to be written where a record with data of its type is added under a name may stand in the zone, where its units are
+-- valid.
 use Rattle.std.proofs.Common.{◌≡◌, ℕ, Bool, true, false, not, ◌&&◌, ◌||◌, List, [], ◌∷◌, Option, None, Some, nat_eq, refl, ap, subst, ◌∙◌}
 use Rattle.std.proofs.lemmas.Bool.{and_from, cond_both, eqb-true, false_from_ne_true, false≢true, not_from_false}
 use Rattle.std.specs.List.{AllByRecursion}
 use Rattle.std.specs.Ordering.{is_eq}
 use lib.Pointwise.{pointwise}
-use Rattle.dn_name.specs.Name.{Labels, is_same, is_under, lowered}
+use Rattle.dn_name.specs.Name.{IsName, Labels, is_same, is_under, lowered}
 use Rattle.dn_rdata.specs.declared.record.Record.{Record}
 use Rattle.dn_rdata.specs.Layout.{IsData}
 use Rattle.dn_rdata.specs.Types.{SOA, answerable}
@@ -16,9 +17,9 @@ use Rattle.dn_store.specs.declared.unit.UnitValue.TheVariants.{Live, Tombstone, 
 use Rattle.dn_store.specs.declared.unit.UnitValue.TheVariants as values
 use Rattle.dn_store.specs.Contents.{node_value, rows_at, rows_in, rows_of_unit}
 use Rattle.dn_store.specs.Table.{unit_at}
-use Rattle.dn_store.specs.Valid.{IsValidUnit}
+use Rattle.dn_store.specs.Valid.{IsNamedKey, IsValidUnit}
 use Rattle.dn_store.specs.Value.{key_order, row_ok, unit_ok}
-use Rattle.dn_store.proofs.CallerLemmas.{AreRows, HasOwnData, key_at, lower_lowered, node_has, node_ok, node_parts, rows_at_have, valid_at}
+use Rattle.dn_store.proofs.CallerLemmas.{AreRows, HasOwnData, key_at, lower_lowered, name_lowered, node_has, node_ok, node_parts, rows_at_have, valid_at}
 use Rattle.dn_update.specs.Node.{is_same_set, with_added}
 use Rattle.dn_update.specs.Writes.{Wanted, node_change}
 use Rattle.dn_update.proofs.AddedRows.{added_all, added_rows}
@@ -72,17 +73,17 @@ row_allowed at_apex row known other =
 -- ---- what is to be written
 
 change_allowed : (apex : Labels) (key : UnitKey) (before after : List Record) (ticks : ℕ) → unit_ok apex key (node_value after ticks) ≡ true → AllByRecursion HasOwnData after
-    → AllByRecursion (IsAllowed apex) (node_change key before after ticks)
+    → IsNamedKey key → AllByRecursion (IsAllowed apex) (node_change key before after ticks)
 unfolding node_change
-change_allowed apex key before after ticks ok have =
+change_allowed apex key before after ticks ok have named =
     let wanted : List Wanted = record { key = key; value = node_value after ticks } ∷ [] in
-    cond_both (is_same_set before after) [] wanted (AllByRecursion (IsAllowed apex)) (λ is. tt) (λ is. ((ok, node_has after ticks have), tt))
+    cond_both (is_same_set before after) [] wanted (AllByRecursion (IsAllowed apex)) (λ is. tt) (λ is. ((ok, node_has after ticks have, named), tt))
 
 pub add_allowed : (apex name : Labels) (row : Record) (list : List units.Unit) (ticks : ℕ) → is_under name apex ≡ true → answerable row.rtype ≡ true → nat_eq row.rtype SOA ≡ false
-    → IsData row.rtype row.rdata → AllByRecursion (IsValidUnit apex) list
+    → IsData row.rtype row.rdata → IsName name → AllByRecursion (IsValidUnit apex) list
     → AllByRecursion (IsAllowed apex)
     (node_change (keys.Node (lowered name)) (rows_at (keys.Node (lowered name)) list) (with_added row (rows_at (keys.Node (lowered name)) list)) ticks)
-add_allowed apex name row list ticks under known other has valid =
+add_allowed apex name row list ticks under known other has named valid =
     let lower : Labels = lowered name in
     let at_apex : Bool = is_same lower apex in
     let before : List Record = rows_at (keys.Node lower) list in
@@ -90,4 +91,4 @@ add_allowed apex name row list ticks under known other has valid =
     let good : AreRows at_apex (with_added row before) = added_rows at_apex row before are.0 are.1 are.2 (row_allowed at_apex row known other) other in
     let have : AllByRecursion HasOwnData (with_added row before) = added_all HasOwnData row before has (rows_at_have apex (keys.Node lower) list valid) in
     change_allowed apex (keys.Node lower) before (with_added row before) ticks
-    (node_ok apex lower (with_added row before) ticks (record { under = lowered_under name apex ∙ under; lower = lower_lowered name; good = good })) have
+    (node_ok apex lower (with_added row before) ticks (record { under = lowered_under name apex ∙ under; lower = lower_lowered name; good = good })) have (name_lowered name named)

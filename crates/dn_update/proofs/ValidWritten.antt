@@ -15,14 +15,14 @@ use Rattle.dn_store.specs.declared.unit.Unit as units
 use Rattle.dn_store.specs.declared.unit.UnitKey.{UnitKey}
 use Rattle.dn_store.specs.declared.unit.Write.{Write}
 use Rattle.dn_store.specs.Table.{IsTable, TableState, change_limit, unit_at}
-use Rattle.dn_store.specs.Valid.{HasData, IsValidUnit, IsValidWrite}
+use Rattle.dn_store.specs.Valid.{HasData, IsNamedKey, IsValidUnit, IsValidWrite}
 use Rattle.dn_store.specs.Value.{fits, unit_ok}
 use Rattle.dn_store.proofs.CallerLemmas.{all_then, table_taken, valid_taken}
 use Rattle.dn_update.specs.Writes.{Outcome, Wanted, stamp_behind, stamp_for, stamped, when_stamped, with_writes, write_under, written}
 
--- the value may stand under its key, and the data of its records are valid for their types
+-- the value may stand under its key, the data of its records are valid for their types, and a node's key is a name
 abbrev pub IsAllowed : Labels → Wanted → Type 0
-IsAllowed apex one = (unit_ok apex one.key one.value ≡ true) × HasData one.value
+IsAllowed apex one = (unit_ok apex one.key one.value ≡ true) × HasData one.value × IsNamedKey one.key
 
 -- ---- stamps
 
@@ -62,7 +62,13 @@ stamped_valid apex list id seconds (one ∷ rest) writes fit allowed valid is =
     let later = both_read (stamped list id seconds rest) (λ others. Some (write_under one first.0 ∷ others)) writes first.2 in
     let fitting = and_parts (fits one.value) (list_all (λ wanted. fits wanted.value) rest) fit in
     subst (AllByRecursion (IsValidWrite apex)) (some_is (write_under one first.0 ∷ later.0) writes later.2) (
-      record { allowed = allowed.0.0; records = allowed.0.1; fitting = fitting.0; version = stamp_version one.key list id seconds first.0 first.1 },
+      record {
+        named = allowed.0.2;
+        allowed = allowed.0.0;
+        records = allowed.0.1;
+        fitting = fitting.0;
+        version = stamp_version one.key list id seconds first.0 first.1;
+      },
       stamped_valid apex list id seconds rest later.0 fitting.1 allowed.1 valid later.1,
     )
 

@@ -107,13 +107,14 @@ first_in_order apex = refl
 first_version : (id : ReplicaId) (seconds : ℕ) → IsVersion (first_stamp id seconds).version
 first_version id seconds = (omega arith, omega arith)
 
-writes_valid : (id : ReplicaId) (host apex mailbox : Labels) (ticks : ℕ) → IsName host → IsName mailbox
+writes_valid : (id : ReplicaId) (host apex mailbox : Labels) (ticks : ℕ) → IsName host → IsName apex → IsName mailbox
     → AllByRecursion (IsValidWrite (lowered apex)) (first_writes id host apex mailbox ticks)
 unfolding first_writes
-writes_valid id host apex mailbox ticks named boxed = (
-  record { allowed = first_in_order (lowered apex); records = tt; fitting = first_fit; version = first_version id (seconds_of ticks) },
+writes_valid id host apex mailbox ticks named zone_named boxed = (
+  record { named = tt; allowed = first_in_order (lowered apex); records = tt; fitting = first_fit; version = first_version id (seconds_of ticks) },
   (
     record {
+      named = name_lowered apex zone_named;
       allowed = node_allowed host apex mailbox;
       records = rows_have_data host mailbox named boxed;
       fitting = node_fits host mailbox named boxed;
@@ -131,7 +132,7 @@ empty_table = record { ordered = tt; numbers = tt; differ = tt; fitting = tt; mo
 pub created_valid : (id : ReplicaId) (host apex mailbox : Labels) (ticks : ℕ) → IsName host → IsName apex → IsName mailbox → IsValidZone (created id host apex mailbox ticks)
 unfolding created first_writes
 created_valid id host apex mailbox ticks named zone_named boxed =
-    let valid = writes_valid id host apex mailbox ticks named boxed in
+    let valid = writes_valid id host apex mailbox ticks named zone_named boxed in
     record {
       host = named;
       apex = name_lowered apex zone_named;

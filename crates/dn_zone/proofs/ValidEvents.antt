@@ -7,7 +7,7 @@ use Rattle.std.specs.List.{AllByRecursion}
 use Rattle.std.specs.Map.{lookup}
 use Rattle.indexmap.specs.IndexMap.{insert_entry}
 use Rattle.dn_io.specs.Moments.{hour_of}
-use Rattle.dn_name.specs.Name.{Labels, is_under}
+use Rattle.dn_name.specs.Name.{IsName, Labels, is_under}
 use Rattle.dn_property.specs.declared.property.Property.{Property}
 use Rattle.dn_property.specs.Rules.{rules_of}
 use Rattle.dn_stamp.specs.declared.stamp.ReplicaId.{ReplicaId}
@@ -81,21 +81,22 @@ set_valid zone cmd moment valid =
     written_valid zone (settings_wanted list settings) moment valid (settings_allowed zone.apex list settings (properties_grow zone.apex zone.table.0 valid.units))
 
 wanted_allowed : (zone : Zone) (name : Labels) (row : Record) (moment : ℕ) → IsValidZone zone → is_under name zone.apex ≡ true → answerable row.rtype ≡ true → nat_eq row.rtype SOA ≡ false
-    → IsData row.rtype row.rdata → AllByRecursion (IsAllowed zone.apex) (add_wanted zone name row moment)
+    → IsData row.rtype row.rdata → IsName name → AllByRecursion (IsAllowed zone.apex) (add_wanted zone name row moment)
 unfolding add_wanted
-wanted_allowed zone name row moment valid under known other has = add_allowed zone.apex name row zone.table.0 moment under known other has valid.units
+wanted_allowed zone name row moment valid under known other has named =
+    add_allowed zone.apex name row zone.table.0 moment under known other has named valid.units
 
 add_valid : (under : Bool) (zone : Zone) (name : Labels) (row : Record) (moment : ℕ) (answer : Answer) → is_under name zone.apex ≡ under → IsValidZone zone → answerable row.rtype ≡ true
-    → nat_eq row.rtype SOA ≡ false → IsData row.rtype row.rdata
+    → nat_eq row.rtype SOA ≡ false → IsData row.rtype row.rdata → IsName name
     → IsValidZone (cond {A = Zone × Answer} under (with_table zone (written (add_wanted zone name row moment) zone.id moment zone.table)) (zone, answer)).0
-add_valid true zone name row moment answer is valid known other has =
-    written_valid zone (add_wanted zone name row moment) moment valid (wanted_allowed zone name row moment valid is known other has)
-add_valid false zone name row moment answer is valid known other has = valid
+add_valid true zone name row moment answer is valid known other has named =
+    written_valid zone (add_wanted zone name row moment) moment valid (wanted_allowed zone name row moment valid is known other has named)
+add_valid false zone name row moment answer is valid known other has named = valid
 
 admin_valid : (zone : Zone) (cmd : AdminCmd) (moment : ℕ) → IsValidZone zone → IsProperCommand cmd → IsValidZone (admin_step zone cmd moment).0
 unfolding admin_step
 admin_valid zone (Add name ttl rtype rdata hour) moment valid proper =
-    add_valid (is_under name zone.apex) zone name (made rtype ttl hour rdata) moment _ refl valid proper.1 proper.2 proper.3
+    add_valid (is_under name zone.apex) zone name (made rtype ttl hour rdata) moment _ refl valid proper.1 proper.2 proper.3 proper.0
 admin_valid zone AgingOn moment valid proper = set_valid zone AgingOn moment valid
 admin_valid zone AgingOff moment valid proper = set_valid zone AgingOff moment valid
 admin_valid zone (NoRefresh hours) moment valid proper = set_valid zone (NoRefresh hours) moment valid

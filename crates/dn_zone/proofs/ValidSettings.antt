@@ -98,7 +98,7 @@ unfolding settings_wanted
 settings_allowed apex list settings grow =
     let wanted : Wanted = record { key = keys.Props; value = values.Props (with_settings settings list) } in
     cond_both (all_set (rules_of list) settings) [] (wanted ∷ []) (AllByRecursion (IsAllowed apex)) (λ is. tt)
-    (λ is. ((all_grow (with_settings settings list) (all_set_grow settings list (grow_all list grow)), tt), tt))
+    (λ is. ((all_grow (with_settings settings list) (all_set_grow settings list (grow_all list grow)), tt, tt), tt))
 
 -- ---- the properties of a valid zone
 
