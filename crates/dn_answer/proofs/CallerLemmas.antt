@@ -1,2 +1,3 @@
 -- What crates above may cite of these proofs.
 pub use Rattle.dn_answer.proofs.RefusalLemmas.{answer_refuses, transfer_refused}
+pub use Rattle.dn_answer.proofs.SentLemmas.{sent_read}

@@ -1,9 +1,11 @@
 pub mod CallerLemmas
 pub mod EqualReplies
 pub mod GlueLemmas
+pub mod NamedLemmas
 pub mod RefusalLemmas
 pub mod RowLemmas
 pub mod SendableReplies
+pub mod SentLemmas
 pub mod ValidRows
 pub mod ValidSoaLemmas
 pub mod WalkLemmas
