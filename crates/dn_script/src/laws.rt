@@ -9,18 +9,22 @@ ghost use Rattle.dn_script.specs.Laws.{IsOneRun};
 ghost use Rattle.dn_script.specs.Passes.{is_moved, pass_events};
 ghost use Rattle.dn_script.specs.Play.{play};
 
-use dn_world::{replicas_answer_alike, worlds_stay_valid, zones_age_rightly};
+use dn_world::{
+    replicas_answer_alike, replies_are_read_rightly, worlds_stay_valid, zones_age_rightly,
+};
 
 /// The law that the play of a script is one run: each of its events is proper, and its lines were answered in the world that
 /// they run to. That world is valid; in it two replicas whose units of a zone are equal by key, stamp and value give the same
-/// reply to each question, save for the primary server and the serial of an SOA; and its zones age rightly, whatever events
-/// come. It stands in the contract, and nothing is changed.
+/// reply to each question, save for the primary server and the serial of an SOA; its zones age rightly, whatever events come;
+/// and what a replica replies to the bytes of a datagram is read by the grammar of replies as what it has to say. It stands in
+/// the contract, and nothing is changed.
 pub fn a_play_is_one_run()
     ensures { (script : List ℕ) → IsOneRun (play script) }
 {
     worlds_stay_valid();
     replicas_answer_alike();
     zones_age_rightly();
+    replies_are_read_rightly();
 }
 
 /// The law that a whole pass over a zone comes to its end, in the world behind any events: its last answer isn't that it goes

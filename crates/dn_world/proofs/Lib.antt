@@ -1,6 +1,7 @@
 pub mod CallerLemmas
 pub mod DatagramLemmas
 pub mod EveryZone
+pub mod RepliesRead
 pub mod RunLemmas
 pub mod SlotLemmas
 pub mod ToldLemmas

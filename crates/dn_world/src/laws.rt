@@ -1,11 +1,13 @@
 //! What holds of the worlds that lists of events run to.
 
-ghost use Rattle.std.specs.Prelude.{List};
+ghost use Rattle.std.specs.Prelude.{List, ℕ};
+ghost use Rattle.dn_world.specs.Datagram.{IsReadRightly, reply_to};
 ghost use Rattle.dn_world.specs.Laws.{AgesRightly, AnswersAlike};
 ghost use Rattle.dn_world.specs.Runs.{AreProper, IsValidWorld, wrun};
 ghost use Rattle.dn_world.specs.declared.event.WorldEvent.{WorldEvent};
+ghost use Rattle.dn_world.specs.declared.world.World.{World};
 
-use dn_answer::equal_replicas_answer_alike;
+use dn_answer::{answers_are_sendable, equal_replicas_answer_alike};
 
 /// The law that proper events, in any order, run to a valid world: each host is a name, each zone is valid and so is each
 /// packet that was sent. It stands in the contract, and nothing runs.
@@ -31,3 +33,12 @@ pub fn replicas_answer_alike()
 pub fn zones_age_rightly()
     ensures { (list : List WorldEvent) → AgesRightly (wrun list) }
 {}
+
+/// The law that what a replica of a valid world replies to the bytes of a datagram, whatever they are, is read by the grammar
+/// of replies as what it has to say: to a query that reaches a zone the zone's reply, with the query's number, RD and question.
+/// It stands in the contract, and nothing is changed.
+pub fn replies_are_read_rightly()
+    ensures { (world : World) → IsValidWorld world → (at : ℕ) (request : List ℕ) → IsReadRightly world at request (reply_to world at request) }
+{
+    answers_are_sendable();
+}

@@ -10,5 +10,7 @@ mod threads;
 mod world;
 
 pub use event::{WorldAnswer, WorldEvent, WorldNo};
-pub use laws::{replicas_answer_alike, worlds_stay_valid, zones_age_rightly};
+pub use laws::{
+    replicas_answer_alike, replies_are_read_rightly, worlds_stay_valid, zones_age_rightly,
+};
 pub use world::{Post, Replica, World};

@@ -1,6 +1,7 @@
 ghost use Rattle.std.specs.Prelude.{◌≡◌, ◌≢◌, ◌≤◌, ◌↔◌, ℕ, List, false, map};
 ghost use Rattle.dn_io.specs.Outside.{Rose, Told};
 ghost use Rattle.dn_world.specs.declared.event.WorldEvent.{WorldEvent};
+ghost use Rattle.dn_world.specs.Datagram.{IsReadRightly, reply_to};
 ghost use Rattle.dn_world.specs.Laws.{AgesRightly, AnswersAlike};
 ghost use Rattle.dn_world.specs.Runs.{AreProper, IsValidWorld, wrun};
 ghost use Rattle.dn_script.specs.Laws.{IsOneRun};
@@ -11,7 +12,9 @@ ghost use Rattle.dnsdir.specs.Command.{command_in};
 use crate::command::{Command, command_of};
 use dn_io::{Sink, Source, Status};
 use dn_script::{a_play_is_one_run, replay};
-use dn_world::{replicas_answer_alike, worlds_stay_valid, zones_age_rightly};
+use dn_world::{
+    replicas_answer_alike, replies_are_read_rightly, worlds_stay_valid, zones_age_rightly,
+};
 use std::alloc::Global;
 
 /// Does what the words of the command line ask for, but for serving: reads the source, writes to the sink, and answers
@@ -47,7 +50,8 @@ pub fn batch<S: Source, K: Sink>(
         → IsDoneOrWant result) }
 
     // The play of a script, of which `written` speaks, is one run: each of its events is proper, and its lines were answered
-    // in the world that these run to. That world is valid, its replicas answer alike, and its zones age rightly.
+    // in the world that these run to. That world is valid, its replicas answer alike, its zones age rightly, and its replies
+    // are read rightly.
     ensures run { (script : List ℕ) → IsOneRun (play script) }
 
     // So it is behind any list of proper events, in any order: in the world that they run to, two replicas whose units of a
@@ -60,14 +64,21 @@ pub fn batch<S: Source, K: Sink>(
     // and a step that is void or idle, change no record.
     ensures aging { (list : List WorldEvent) → AgesRightly (wrun list) }
 
-    // Each host is a name, each zone is valid (its units for its apex, their data for their types, under different numbers up
-    // to its change count), and so is each packet that was sent.
+    // Each host is a name, each zone is valid (its units for its apex, their data for their types, under names, with different
+    // numbers up to its change count), and so is each packet that was sent.
     ensures valid { (list : List WorldEvent) → AreProper list → IsValidWorld (wrun list) }
+
+    // What a replica there replies to the bytes of a datagram, whatever they are, is read by the grammar of replies as what it
+    // has to say: to a query that reaches a zone the zone's reply, with the query's number, RD and question; else nothing, or a
+    // header alone with the request's number, opcode and RD, and the code.
+    ensures replies { (list : List WorldEvent) → AreProper list → (at : ℕ) (request : List ℕ)
+        → IsReadRightly (wrun list) at request (reply_to (wrun list) at request) }
 {
     a_play_is_one_run();
     worlds_stay_valid();
     replicas_answer_alike();
     zones_age_rightly();
+    replies_are_read_rightly();
     match command_of(words) {
         Command::Replay => replay(alloc, source, sink),
         _ => Status::Usage,

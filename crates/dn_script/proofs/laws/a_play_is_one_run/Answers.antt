@@ -9,10 +9,12 @@ pub returns : goal.returns
 returns c script =
     let proper : AreProper (play script).events = play_proper script in
     let world : (play script).world ≡ wrun (play script).events = play_runs script in
+    let valid : IsValidWorld (play script).world = subst IsValidWorld (sym world) (c.worlds_stay_valid.ensures (play script).events proper) in
     record {
       proper = proper;
       world = world;
-      valid = subst IsValidWorld (sym world) (c.worlds_stay_valid.ensures (play script).events proper);
+      valid = valid;
       alike = subst AnswersAlike (sym world) (c.replicas_answer_alike.ensures (play script).events proper);
       aging = subst AgesRightly (sym world) (c.zones_age_rightly.ensures (play script).events);
+      replies = c.replies_are_read_rightly.ensures (play script).world valid;
     }
