@@ -1,4 +1,5 @@
 pub mod CallerLemmas
+pub mod CountedLemmas
 pub mod DecisionLemmas
 pub mod FirstFaultLemmas
 pub mod LabelTurnLemmas

@@ -1,7 +1,8 @@
 //! Domain names (RFC 1035 2.3.4, 3.1, 5.1): labels of 1 to 63 bytes, at most 255 bytes on the wire;
-//! in a message they share their ends by pointers (4.1.4). No call takes memory.
+//! in a message they share their ends by pointers (4.1.4), and in stored values they are counted. No call takes memory.
 #![tactic(auto)]
 
+mod counted;
 mod error;
 mod laws;
 mod name;

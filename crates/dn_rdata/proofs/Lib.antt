@@ -2,8 +2,11 @@ pub mod CallerLemmas
 pub mod FoldedLemmas
 pub mod LaidLemmas
 pub mod MadeData
+pub mod OneViewLemmas
 pub mod PartLemmas
 pub mod RowOrderLemmas
+pub mod StoredLemmas
 pub mod TableLemmas
 pub mod TargetLemmas
 pub mod TextsLemmas
+pub mod ViewLemmas

@@ -1,5 +1,9 @@
 pub mod Data
 pub mod Laid
 pub mod Layout
+pub mod Ranges
 pub mod Record
+pub mod Rows
+pub mod Stored
 pub mod Types
+pub mod Views

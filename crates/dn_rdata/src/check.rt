@@ -72,7 +72,7 @@ fn behind_bytes(bytes: &[u8], count: u8) -> Option<&[u8]>
 }
 
 // The bytes behind a name without pointers; none where the bytes don't begin with one.
-fn behind_name(bytes: &[u8]) -> Option<&[u8]>
+pub(crate) fn behind_name(bytes: &[u8]) -> Option<&[u8]>
     ensures found { IfSome result (λ rest. Begins kinds.OneName bytes.now rest.now) }
     ensures only { (back : Seq ℕ) → Begins kinds.OneName bytes.now back → option_map (λ rest. rest.now) result ≡ Some back }
 {

@@ -1,8 +1,12 @@
-//! Laws of how data lie in a message (RFC 1035 3.3 and 4.1.4).
+//! Laws of how data lie in a message (RFC 1035 3.3 and 4.1.4), of their stored form (MS-DNSP 2.2.2.2.4), of the order of
+//! records and of the parts of their data.
 
 ghost use Rattle.std.specs.Prelude.{ℕ};
 ghost use Rattle.dn_rdata.specs.Laid.{IsLaidOnce, LaidIsWire, WireIsLaid};
 ghost use Rattle.dn_rdata.specs.Layout.{NamesAgree};
+ghost use Rattle.dn_rdata.specs.Rows.{RowsAreOrdered, RowsDiffer, RowsStay};
+ghost use Rattle.dn_rdata.specs.Stored.{DataAreStored, StoredIsData, StoredIsReadOnce, StoredIsSized, StoredIsWrittenOnce};
+ghost use Rattle.dn_rdata.specs.Views.{ViewsAreOne};
 
 use dn_name::names_are_spelled_once;
 
@@ -24,4 +28,26 @@ pub fn data_are_laid_once()
 /// table of its parts.
 pub fn names_agree_with_parts()
     ensures { (rtype : ℕ) → NamesAgree rtype }
+{}
+
+/// Valid data have one stored form, and stored data are the form of one rdata at most, which is valid.
+pub fn stored_data_are_spelled_once()
+    ensures read { StoredIsReadOnce }
+    ensures written { StoredIsWrittenOnce }
+    ensures valid { StoredIsData }
+    ensures any { DataAreStored }
+    ensures sized { StoredIsSized }
+{}
+
+/// The order of whole records is an order: it turns round with its records, it goes on from record to record, and records of
+/// one place in it are equal.
+pub fn rows_are_ordered()
+    ensures order { RowsAreOrdered }
+    ensures differ { RowsDiffer }
+    ensures stay { RowsStay }
+{}
+
+/// Of a record there is one view: any two are of one kind, with the same numbers and the same bytes of each part.
+pub fn views_are_one()
+    ensures { ViewsAreOne }
 {}

@@ -1,5 +1,5 @@
-//! Records of a node: their data on the wire, its names in lower case, and the order of records (RFC 1035 3.3, RFC 2136
-//! 1.1).
+//! Records of a node: their data on the wire, its parts, its names in lower case, and the order of records (RFC 1035 3.3,
+//! RFC 2136 1.1).
 #![tactic(auto)]
 
 mod check;
@@ -8,15 +8,24 @@ mod laws;
 mod order;
 mod parts;
 mod record;
+mod stored;
 mod threads;
 mod types;
+mod views;
 mod wire;
 
 pub use check::{DataFault, check_rdata};
 pub use data::{minimum_of, number_of_bytes, target_of};
-pub use laws::{data_are_laid_once, names_agree_with_parts, valid_data_are_laid};
-pub use order::{compare_rows, names_in};
+pub use laws::{
+    data_are_laid_once, names_agree_with_parts, rows_are_ordered, stored_data_are_spelled_once,
+    valid_data_are_laid, views_are_one,
+};
+pub use order::{
+    bytes_before_names, bytes_behind_names, compare_rows, names_in, row_order, same_rdata,
+};
 pub use parts::{Part, parts_of};
 pub use record::Record;
+pub use stored::stored_len;
 pub use types::{A, AAAA, ANY, AXFR, CNAME, IN, MX, NS, PTR, SOA, SRV, answerable};
+pub use views::DataView;
 pub use wire::push_wire;

@@ -1,6 +1,7 @@
-ghost use Rattle.std.specs.Prelude.{◌≡◌, ◌<◌, ◌-◌, not, ◌&&◌, nat_eq, nat_le, nat_lt, length, slice_index};
+ghost use Rattle.std.specs.Prelude.{◌≡◌, ◌↔◌, ◌<◌, ◌-◌, not, ◌&&◌, nat_eq, nat_le, nat_lt, length, slice_index, true};
 ghost use Rattle.dn_name.specs.Name.{lower_byte};
 ghost use Rattle.dn_rdata.specs.Record.{bytes_before_names, bytes_behind_names, bytes_cmp, data_order, folded, names_in};
+ghost use Rattle.dn_rdata.specs.Rows.{field_order, is_same_data, row_order};
 
 use crate::record::Record;
 use crate::types::{CNAME, MX, NS, PTR, SOA, SRV};
@@ -17,7 +18,7 @@ pub fn names_in(rtype: u16) -> usize
     }
 }
 
-// How many bytes stand before the names in the data of a type.
+/// How many bytes stand before the names in the data of a type.
 pub fn bytes_before_names(rtype: u16) -> usize
     ensures { result ≡ bytes_before_names rtype }
 {
@@ -28,8 +29,8 @@ pub fn bytes_before_names(rtype: u16) -> usize
     }
 }
 
-// How many bytes stand behind the names in the data of a type.
-fn bytes_behind_names(rtype: u16) -> usize
+/// How many bytes stand behind the names in the data of a type.
+pub fn bytes_behind_names(rtype: u16) -> usize
     ensures { result ≡ bytes_behind_names rtype }
 {
     match rtype {
@@ -97,4 +98,40 @@ pub fn compare_rows(left: &Record, right: &Record) -> Ordering
         right.rdata.as_slice(),
     );
     left.rtype.cmp(&right.rtype).then(data)
+}
+
+/// Whether two data of a type are the same once the letters of the names in them, and of nothing else, are in lower case
+/// (RFC 2136 1.1.1, RFC 4343). It takes no memory.
+pub fn same_rdata(rtype: u16, left: &[u8], right: &[u8]) -> bool
+    ensures exact { result ≡ is_same_data rtype left.now right.now }
+    ensures meaning { (result ≡ true) ↔ (folded rtype left.now ≡ folded rtype right.now) }
+{
+    compare_data(rtype, left, rtype, right).is_eq()
+}
+
+// The order of two records by the numbers beside type and data.
+fn compare_fields(left: &Record, right: &Record) -> Ordering
+    ensures { result ≡ field_order left.now right.now }
+{
+    let times = left.ttl.cmp(&right.ttl).then(
+        left.reserved
+            .cmp(&right.reserved)
+            .then(left.hour.cmp(&right.hour)),
+    );
+    let marks = left
+        .flags
+        .cmp(&right.flags)
+        .then(left.serial.cmp(&right.serial).then(times));
+    left.rank.cmp(&right.rank).then(marks)
+}
+
+/// The order of whole records: that of [`compare_rows`], then by rank, flags, serial, time to live, reserved field and hour,
+/// and at last by the bytes of the data as they are. Records of one place in it are equal. It takes no memory.
+pub fn row_order(left: &Record, right: &Record) -> Ordering
+    ensures { result ≡ row_order left.now right.now }
+{
+    let data = compare_rows(left, right);
+    let fields = compare_fields(left, right);
+    let bytes = left.rdata.as_slice().cmp(right.rdata.as_slice());
+    data.then(fields.then(bytes))
 }

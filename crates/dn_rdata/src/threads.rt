@@ -1,10 +1,11 @@
-//! Records and what is wrong with their data are Send and Sync: these calls can be made for such types alone.
+//! Records, the parts of their data and what is wrong with these are Send and Sync: these calls can be made for such types alone.
 
-use crate::{DataFault, Record};
+use crate::{DataFault, DataView, Record};
 
 fn crosses<T: Send + Sync>() {}
 
 fn types_cross() {
     crosses::<DataFault>();
+    crosses::<DataView<'static>>();
     crosses::<Record>();
 }
