@@ -1,6 +1,6 @@
 -- What a zone's property list says of updates and of aging (MS-DNSP 2.3.2.1.1).
-use Rattle.std.specs.Prelude.{ℕ, Bool, not, nat_eq, nat_le, ◌==◌, if◌then◌else◌, List, [], ◌∷◌, length, find, Option, None, Some, option_map, option_and_then, unwrap_or}
-use Rattle.std.specs.Int.{w32, from_le_bytes}
+use Rattle.std.specs.Prelude.{ℕ, Bool, not, nat_eq, nat_le, if◌then◌else◌, List, [], ◌∷◌, find, Option, option_map, option_and_then, unwrap_or}
+use Rattle.dn_property.specs.Numbers.{number_in}
 use Rattle.dn_property.specs.declared.property.Property.{Property}
 use Rattle.dn_property.specs.declared.rules.ZoneRules.{ZoneRules}
 
@@ -10,10 +10,6 @@ has_id id item = nat_eq item.id id
 -- the data of the first property of an id
 abbrev pub data_of : ℕ → List Property → Option (List ℕ)
 data_of id list = option_map (λ item. item.content) (find (has_id id) list)
-
--- a number of four bytes, little-endian; data of another length counts as absent
-abbrev pub number_in : List ℕ → Option ℕ
-number_in content = if length content == 4 then Some (from_le_bytes w32 content) else None
 
 -- the number of a property, or the default
 abbrev pub number_or : ℕ → ℕ → List Property → ℕ

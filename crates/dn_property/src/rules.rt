@@ -1,8 +1,9 @@
 ghost use Rattle.std.specs.Prelude.{◌≡◌, find, option_copied};
 ghost use Rattle.dn_property.specs.Hours.{is_due, is_open, is_stale};
-ghost use Rattle.dn_property.specs.Rules.{allow_in, allow_of, data_of, has_id, number_in, number_or, rules_of};
+ghost use Rattle.dn_property.specs.Rules.{allow_in, allow_of, data_of, has_id, number_or, rules_of};
 
 use crate::Property;
+use crate::number::number_in;
 
 // The ids of the properties that are acted on (MS-DNSP 2.3.2.1.1).
 const ALLOW_UPDATE: u32 = 0x02;
@@ -44,14 +45,6 @@ fn data_of(id: u32, list: &[Property]) -> Option<&[u8]>
     ensures { option_copied result ≡ data_of id list.now }
 {
     Some(first_of(id, list)?.content.as_slice())
-}
-
-// The number in four bytes, little-endian; none in data of another length.
-fn number_in(content: &[u8]) -> Option<u32>
-    ensures { result ≡ number_in content.now }
-{
-    let bytes = content.try_into().ok()?;
-    Some(u32::from_le_bytes(bytes))
 }
 
 // The number of a property, or the default where there is none.

@@ -1,0 +1,4 @@
+pub mod FaultLemmas
+pub mod OnceLemmas
+pub mod RangeLemmas
+pub mod WritingLemmas
