@@ -5,11 +5,11 @@ use Rattle.dn_rdata.proofs.CallerLemmas.{address_data}
 use Rattle.dn_zone.specs.declared.event.AdminCmd.{AdminCmd}
 use Rattle.dn_zone.specs.declared.event.AdminCmd.TheVariants.{Add, AgingOn, AgingOff, NoRefresh, Refresh}
 use Rattle.dn_zone.specs.Valid.{IsProperCommand, interval_limit}
-use Rattle.dn_text.specs.Addresses.{address_of}
-use Rattle.dn_text.specs.Names.{name_word}
-use Rattle.dn_text.specs.Numbers.{number_within}
-use Rattle.dn_text.specs.Words.{is_word}
-use Rattle.dn_text.proofs.CallerLemmas.{address_is_four, bound, chosen, given_is, name_is_name, number_is_within}
+use Rattle.dn_word.specs.Addresses.{address_of}
+use Rattle.dn_word.specs.Names.{name_word}
+use Rattle.dn_word.specs.Numbers.{number_within}
+use Rattle.dn_word.specs.Words.{is_word}
+use Rattle.dn_word.proofs.CallerLemmas.{address_is_four, bound, chosen, given_is, name_is_name, number_is_within}
 use Rattle.dn_admin.specs.Command.{add_of, address_command, aging_of, command_of, interval_command, interval_named, interval_of}
 
 a_is_answered : answerable A ≡ true

@@ -6,7 +6,7 @@ use Rattle.dn_zone.specs.declared.event.AdminDone.{AdminDone}
 use Rattle.dn_zone.specs.declared.event.AdminDone.TheVariants.{Written, Unchanged, NotInZone}
 use Rattle.dn_zone.specs.declared.event.Answer.{Answer}
 use Rattle.dn_zone.specs.declared.event.Answer.TheVariants.{Admin, Begun, Busy, Finished, Gap, Idle, Merged, Moved, NotDue, Refused, Void}
-use Rattle.dn_text.specs.Print.{count_text}
+use Rattle.dn_word.specs.Print.{count_text}
 
 abbrev pub admin_text : AdminDone → List ℕ
 admin_text (Written units) = count_text (codes "ok ") units

@@ -4,11 +4,11 @@ use Rattle.dn_io.specs.Options.{◌>>=◌}
 use Rattle.dn_rdata.specs.Types.{A}
 use Rattle.dn_zone.specs.declared.event.AdminCmd.{AdminCmd}
 use Rattle.dn_zone.specs.declared.event.AdminCmd.TheVariants.{Add, AgingOn, AgingOff, NoRefresh, Refresh}
-use Rattle.dn_text.specs.Addresses.{address_of}
-use Rattle.dn_text.specs.Names.{name_word}
-use Rattle.dn_text.specs.Numbers.{number_within}
+use Rattle.dn_word.specs.Addresses.{address_of}
+use Rattle.dn_word.specs.Names.{name_word}
+use Rattle.dn_word.specs.Numbers.{number_within}
 use Rattle.dn_text.specs.Types.{is_type_a}
-use Rattle.dn_text.specs.Words.{is_word}
+use Rattle.dn_word.specs.Words.{is_word}
 
 -- the command that adds an address at a name, with this hour as its time stamp
 unfoldable pub address_command : List ℕ → List ℕ → List ℕ → ℕ → Option AdminCmd

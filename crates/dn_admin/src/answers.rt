@@ -1,10 +1,10 @@
 ghost use Rattle.std.specs.Prelude.{◌≡◌, ◌++◌, IfOk, OnOk};
 ghost use Rattle.dn_admin.specs.Answers.{admin_text, answer_text, gap_text, limit_text, span_text, sweep_text};
-ghost use Rattle.dn_text.specs.Print.{as_line};
+ghost use Rattle.dn_word.specs.Print.{as_line};
 
 use dn_io::{List, OutOfMemory};
-use dn_text::push_count;
 use dn_update::Limit;
+use dn_word::push_count;
 use dn_zone::{AdminDone, Answer};
 use std::alloc::Global;
 

@@ -1,10 +1,11 @@
 ghost use Rattle.std.specs.Prelude.{◌≡◌, map};
 ghost use Rattle.dn_admin.specs.Command.{add_of, address_command, aging_of, command_of, hour_words, interval_command, interval_of};
-ghost use Rattle.dn_text.specs.Reading.{Reads};
+ghost use Rattle.dn_word.specs.Reading.{Reads};
 
 use dn_io::List;
 use dn_rdata::A;
-use dn_text::{TextError, ip_of, is_type_a, is_word, name_of, number_of};
+use dn_text::is_type_a;
+use dn_word::{TextError, ip_of, is_word, name_of, number_of};
 use dn_zone::AdminCmd;
 use std::alloc::Global;
 

@@ -10,7 +10,7 @@ use Rattle.dn_message.specs.Query.{IsQuery}
 use Rattle.dn_message.specs.Reply.{IsReply}
 use Rattle.dn_answer.specs.declared.reply.AnswerValue.{AnswerValue}
 use Rattle.dn_answer.specs.Told.{value_of}
-use Rattle.dn_text.specs.Print.{as_line}
+use Rattle.dn_word.specs.Print.{as_line}
 use Rattle.dn_world.specs.declared.world.World.{World}
 use Rattle.dn_world.specs.Ask.{reply_at, world_reply}
 use Rattle.dn_world.specs.Datagram.{IsReadRightly, reply_to, wants_more}

@@ -3,8 +3,8 @@ use Rattle.std.proofs.Common.{◌≡◌, ℕ, ◌+◌, Bool, true, false, cond, 
 use Rattle.std.specs.Prelude.{slice_get}
 use Rattle.dn_io.specs.Lines.{RawLine, is_overlong, lines_of, size_of, text_of}
 use Rattle.dn_io.specs.Options.{◌>>=◌}
-use Rattle.dn_text.specs.Words.{words_of}
-use Rattle.dn_text.proofs.CallerLemmas.{bound, chosen, given_is}
+use Rattle.dn_word.specs.Words.{words_of}
+use Rattle.dn_word.proofs.CallerLemmas.{bound, chosen, given_is}
 use Rattle.dn_world.specs.declared.event.WorldAnswer.{WorldAnswer}
 use Rattle.dn_world.specs.declared.event.WorldAnswer.TheVariants.{Made}
 use Rattle.dn_world.specs.declared.event.WorldEvent.{WorldEvent}

@@ -4,14 +4,14 @@ use Rattle.dn_io.specs.Options.{◌>>=◌}
 use Rattle.dn_name.specs.Name.{IsName, Labels}
 use Rattle.dn_rdata.specs.Types.{A}
 use Rattle.dn_zone.specs.Valid.{IsProperCommand}
-use Rattle.dn_text.specs.Hex.{bytes_of_hex}
-use Rattle.dn_text.specs.Moments.{moment_of}
-use Rattle.dn_text.specs.Names.{name_word}
-use Rattle.dn_text.specs.Numbers.{number_within}
-use Rattle.dn_text.specs.Replicas.{id_of}
+use Rattle.dn_word.specs.Hex.{bytes_of_hex}
+use Rattle.dn_word.specs.Moments.{moment_of}
+use Rattle.dn_word.specs.Names.{name_word}
+use Rattle.dn_word.specs.Numbers.{number_within}
+use Rattle.dn_word.specs.Replicas.{id_of}
 use Rattle.dn_text.specs.Types.{is_type_a}
-use Rattle.dn_text.specs.Words.{is_word, words_of}
-use Rattle.dn_text.proofs.CallerLemmas.{bound, chosen, given_is, name_is_name}
+use Rattle.dn_word.specs.Words.{is_word, words_of}
+use Rattle.dn_word.proofs.CallerLemmas.{bound, chosen, given_is, name_is_name}
 use Rattle.dn_admin.specs.Command.{command_of}
 use Rattle.dn_admin.proofs.CallerLemmas.{proper_command}
 use Rattle.dn_world.specs.declared.event.WorldEvent.{WorldEvent}

@@ -1,6 +1,5 @@
 -- How the play of a script goes on line by line.
-use Rattle.std.proofs.Common.{◌≡◌, ℕ, ◌+◌, true, false, List, [], ◌∷◌, ◌++◌, Option, Some, None, Ok, Err, refl, sym, ap, subst, ◌∙◌, append_assoc}
-use Rattle.std.proofs.lemmas.List.{append-nil}
+use Rattle.std.proofs.Common.{◌≡◌, ℕ, ◌+◌, true, false, List, [], ◌∷◌, ◌++◌, Option, None, Ok, Err, refl, ap, subst, ◌∙◌}
 use Rattle.std.specs.Io.KnownBytes.{Appends}
 use Rattle.dn_io.specs.declared.line.Line.TheVariants.{Text, End}
 use Rattle.dn_io.specs.declared.line.LineError.{LineError}
@@ -8,37 +7,12 @@ use Rattle.dn_io.specs.declared.line.LineError.TheVariants as errors
 use Rattle.dn_io.specs.declared.status.Status.{Status}
 use Rattle.dn_io.specs.declared.status.Status.TheVariants.{Done, BadLine, Usage, ReadFault, WriteFault, OutOfMemory, TooLong, LinkFault}
 use Rattle.dn_io.specs.Lines.{Held, RawLine, ReadsLine, is_overlong, lines_of, size_of, text_of}
-use Rattle.dn_io.specs.Outside.{AppendsFront, Told}
+use Rattle.dn_io.specs.Outside.{Told}
 use Rattle.dn_world.specs.declared.event.WorldEvent.{WorldEvent}
 use Rattle.dn_script.specs.declared.script.Script.{Script}
 use Rattle.dn_script.specs.Play.{Ended, AtEnd, Long, Played, after_step, ends, opening, play, play_lines, printing, step_text, text_events}
 use Rattle.dn_script.specs.Play.Turns.{GoesOn, RunsText, Stops, Turns, play_ahead, status_of}
-
--- ---- what a sink holds
-
-pub nothing_more : (known : Option (List ℕ)) → Appends known known []
-nothing_more None = tt
-nothing_more (Some bytes) = sym (append-nil bytes)
-
--- one append behind another
-pub appends-then : (before mid now : Option (List ℕ)) (first second : List ℕ) → Appends before mid first → Appends mid now second → Appends before now (first ++ second)
-appends-then None mid now first second a b = tt
-appends-then (Some x) None now first second a b = absurd a
-appends-then (Some x) (Some y) None first second a b = absurd b
-appends-then (Some x) (Some y) (Some z) first second a b = b ∙ ap (λ (l : List ℕ). l ++ second) a ∙ append_assoc x first second
-
-pub front-then : (before mid now : Option (List ℕ)) (first second : List ℕ) → Appends before mid first → AppendsFront mid now second → AppendsFront before now (first ++ second)
-front-then before mid now first second a (front, back, parts, b) =
-    (first ++ front, back, ap (λ (l : List ℕ). first ++ l) parts ∙ sym (append_assoc first front back), appends-then before mid now first front a b)
-
--- a front of the first piece is one of the whole
-pub front-more : (before now : Option (List ℕ)) (first second : List ℕ) → AppendsFront before now first → AppendsFront before now (first ++ second)
-front-more before now first second (front, back, parts, a) =
-    (front, back ++ second, ap (λ (l : List ℕ). l ++ second) parts ∙ append_assoc front back second, a)
-
--- nothing is a front of all
-pub front-none : (known : Option (List ℕ)) (bytes : List ℕ) → AppendsFront known known bytes
-front-none known bytes = ([], bytes, refl, nothing_more known)
+use Rattle.dn_script.proofs.SinkLemmas.{appends-then, front-more, front-none, front-then, nothing_more, told_map, told_then}
 
 -- ---- the play
 
@@ -68,11 +42,6 @@ unfolding play_lines
 play_none number before script = refl
 
 -- ---- one turn
-
-told_map : (before now : Option (List ℕ)) (P Q : List ℕ → List ℕ → Type 0) → ((x y : List ℕ) → P x y → Q x y) → Told before now P → Told before now Q
-told_map None now P Q f t = tt
-told_map (Some x) None P Q f t = absurd t
-told_map (Some x) (Some y) P Q f t = f x y t
 
 -- a text that was run and written, in the play of its line and the others
 text_done : (number : ℕ) (script after : Script) (events : List WorldEvent) (text : List ℕ) (w0 w1 : Option (List ℕ)) (go_on : Script → Played) → RunsText (Ok tt) number script after text w0 w1
@@ -148,12 +117,6 @@ turn_fails s0 s1 number old new script after w rest error read =
     (λ before now fails. read_fails number old new before now script w error fails) read
 
 -- ---- all turns
-
-told_then : (s0 s1 s2 : Option (List ℕ)) (P Q R : List ℕ → List ℕ → Type 0) → ((x y z : List ℕ) → P x y → Q y z → R x z) → Told s0 s1 P → Told s1 s2 Q → Told s0 s2 R
-told_then None s1 s2 P Q R f p q = tt
-told_then (Some x) None s2 P Q R f p q = absurd p
-told_then (Some x) (Some y) None P Q R f p q = absurd q
-told_then (Some x) (Some y) (Some z) P Q R f p q = f x y z p q
 
 -- the turns so far, and the last
 pub turns_end : (s0 s1 s2 w0 w1 w2 : Option (List ℕ)) (status : Status) (whole mid : List ℕ → Played)

@@ -2,13 +2,13 @@
 use Rattle.std.specs.Prelude.{ℕ, if◌then◌else◌, List, [], ◌∷◌, codes, Option, None, Some}
 use Rattle.dn_io.specs.Options.{◌>>=◌}
 use Rattle.dn_rdata.specs.Types.{A}
-use Rattle.dn_text.specs.Hex.{bytes_of_hex}
-use Rattle.dn_text.specs.Moments.{moment_of}
-use Rattle.dn_text.specs.Names.{name_word}
-use Rattle.dn_text.specs.Numbers.{number_within}
-use Rattle.dn_text.specs.Replicas.{id_of, is_replica_name}
+use Rattle.dn_word.specs.Hex.{bytes_of_hex}
+use Rattle.dn_word.specs.Moments.{moment_of}
+use Rattle.dn_word.specs.Names.{name_word}
+use Rattle.dn_word.specs.Numbers.{number_within}
+use Rattle.dn_word.specs.Replicas.{id_of, is_replica_name}
 use Rattle.dn_text.specs.Types.{is_type_a}
-use Rattle.dn_text.specs.Words.{is_word}
+use Rattle.dn_word.specs.Words.{is_word}
 use Rattle.dn_admin.specs.Command.{command_of}
 use Rattle.dn_script.specs.declared.line.ScriptLine.{ScriptLine}
 use Rattle.dn_script.specs.declared.line.ScriptLine.TheVariants as lines

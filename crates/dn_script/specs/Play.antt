@@ -22,8 +22,8 @@ use Rattle.dn_world.specs.Ask.{world_reply}
 use Rattle.dn_world.specs.Datagram.{reply_to, wants_more}
 use Rattle.dn_world.specs.Runs.{run_from}
 use Rattle.dn_world.specs.World.{empty_world}
-use Rattle.dn_text.specs.Print.{as_line}
-use Rattle.dn_text.specs.Words.{words_of}
+use Rattle.dn_word.specs.Print.{as_line}
+use Rattle.dn_word.specs.Words.{words_of}
 use Rattle.dn_admin.specs.Answers.{answer_text}
 use Rattle.dn_script.specs.declared.line.ScriptLine.{ScriptLine}
 use Rattle.dn_script.specs.declared.line.ScriptLine.TheVariants as lines

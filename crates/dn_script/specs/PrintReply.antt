@@ -4,7 +4,7 @@ use Rattle.dn_message.specs.declared.rcode.Rcode.{Rcode}
 use Rattle.dn_message.specs.declared.rcode.Rcode.TheVariants.{NoError, FormErr, ServFail, NxDomain, NotImp, Refused, YxDomain, YxRrset, NxRrset, NotAuth, NotZone}
 use Rattle.dn_message.specs.declared.rr.Rr.{Rr}
 use Rattle.dn_answer.specs.declared.reply.AnswerValue.{AnswerValue}
-use Rattle.dn_text.specs.Print.{as_line, count_text}
+use Rattle.dn_word.specs.Print.{as_line, count_text}
 use Rattle.dn_text.specs.Rows.{row_text}
 
 abbrev pub rcode_text : Rcode → List ℕ

@@ -1,6 +1,6 @@
 -- Lines that do nothing.
 use Rattle.std.specs.Prelude.{ℕ, Bool, false, ◌||◌, nat_eq, List, [], ◌∷◌, length}
-use Rattle.dn_text.specs.Words.{words_of}
+use Rattle.dn_word.specs.Words.{words_of}
 
 -- A line does nothing where it has no words or begins with `#` (35).
 abbrev pub is_comment : List ℕ → Bool

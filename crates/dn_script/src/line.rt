@@ -1,15 +1,15 @@
 ghost use Rattle.std.specs.Prelude.{◌≡◌, map};
 ghost use Rattle.dn_script.specs.Line.{admin_line, ask_line, at_line, create_line, deliver_line, event_line, join_line, line_of, pass_line, pull_line, replica_line, udp_line, zone_line};
-ghost use Rattle.dn_text.specs.Reading.{Reads};
+ghost use Rattle.dn_word.specs.Reading.{Reads};
 
 use dn_admin::command_of;
 use dn_io::{List, Moment};
 use dn_name::Name;
 use dn_rdata::A;
 use dn_stamp::ReplicaId;
-use dn_text::{
-    TextError, bytes_of_hex, id_of, is_replica_name, is_type_a, is_word, moment_of, name_of,
-    number_of,
+use dn_text::is_type_a;
+use dn_word::{
+    TextError, bytes_of_hex, id_of, is_replica_name, is_word, moment_of, name_of, number_of,
 };
 use dn_zone::AdminCmd;
 use std::alloc::Global;

@@ -1,9 +1,9 @@
 ghost use Rattle.std.specs.Prelude.{◌≡◌, IfOk};
 ghost use Rattle.dn_script.specs.Print.{datagram_text, packet_text};
-ghost use Rattle.dn_text.specs.Print.{as_line};
+ghost use Rattle.dn_word.specs.Print.{as_line};
 
 use dn_io::{List, OutOfMemory};
-use dn_text::{hex_line, push_count};
+use dn_word::{hex_line, push_count};
 use std::alloc::Global;
 
 // The line that a script prints of a packet that was sent.

@@ -1,11 +1,12 @@
 ghost use Rattle.std.specs.Prelude.{◌≡◌, ◌++◌, flat_map, IfOk, OnOk};
 ghost use Rattle.dn_script.specs.PrintReply.{bit, counts_text, flags_text, rcode_text, reply_text, row_line, status_text};
-ghost use Rattle.dn_text.specs.Print.{as_line};
+ghost use Rattle.dn_word.specs.Print.{as_line};
 
 use dn_answer::AnswerValue;
 use dn_io::{List, OutOfMemory};
 use dn_message::{Rcode, Rr};
-use dn_text::{push_count, row_line};
+use dn_text::row_line;
+use dn_word::push_count;
 use std::alloc::Global;
 
 // The code of a reply by name.

@@ -2,22 +2,13 @@ ghost use Rattle.std.specs.Prelude.{◌≡◌, ◌≢◌, ◌+◌, ◌≤◌, No
 ghost use Rattle.dn_io.specs.Outside.{Rose, Told};
 ghost use Rattle.dn_world.specs.Runs.{IsValidWorld};
 ghost use Rattle.dn_script.specs.Play.{Ended, play};
-ghost use Rattle.dn_script.specs.Play.Turns.{Advanced, RunsText, Turns, last_status, play_ahead, status_of};
+ghost use Rattle.dn_script.specs.Play.Turns.{Advanced, RunsText, Turns, last_status, play_ahead};
 
 use crate::bad::Bad;
+use crate::line_status::status_of;
 use crate::script::Script;
-use dn_io::{Line, LineBuf, LineError, Sink, Source, Status, read_line, write_all};
+use dn_io::{Line, LineBuf, Sink, Source, Status, read_line, write_all};
 use std::alloc::Global;
-
-fn status_of(error: LineError) -> Status
-    ensures { result ≡ status_of error }
-{
-    match error {
-        LineError::ReadFault => Status::ReadFault,
-        LineError::TooLong => Status::TooLong,
-        LineError::OutOfMemory => Status::OutOfMemory,
-    }
-}
 
 // Runs the text of a line, and writes what it prints.
 fn run_text<K: Sink>(

@@ -15,7 +15,7 @@ use dn_admin::answer_line;
 use dn_io::{List, Moment};
 use dn_name::Name;
 use dn_stamp::ReplicaId;
-use dn_text::{TextError, words_of};
+use dn_word::{TextError, words_of};
 use dn_world::{World, WorldAnswer, WorldEvent};
 use dn_zone::{AdminCmd, Event};
 use std::alloc::Global;

@@ -1,6 +1,6 @@
 ghost use Rattle.std.specs.Prelude.{◌≡◌, map};
 ghost use Rattle.dn_script.specs.Words.{does_nothing};
-ghost use Rattle.dn_text.specs.Words.{words_of};
+ghost use Rattle.dn_word.specs.Words.{words_of};
 
 // Whether a line with these words does nothing: it has none, or begins with `#`.
 #[tactic(auto, unfolding(crate::specs::Words::does_nothing))]

@@ -1,23 +1,27 @@
-//! Text of values: words, numbers, addresses of IPv4, names, types and rows (RFC 1035 5.1).
+//! Text of values: types, data and rows (RFC 1035 5.1), and lines of stored records and properties.
 #![tactic(auto)]
 
-mod address;
-mod error;
-mod hexadecimal;
-mod number;
-mod parts;
-mod print;
-mod replica;
+mod field;
+mod labelled;
+mod laws;
+mod long_address;
+mod property_lines;
+mod property_table;
+mod quoted;
+mod read_data;
+mod read_field;
+mod record_lines;
 mod row;
-mod threads;
-mod words;
+mod strings;
+mod table;
+mod types;
 
-pub use address::{cut, ip_of};
-pub use error::TextError;
-pub use hexadecimal::{bytes_of_hex, hex_line};
-pub use number::number_within;
-pub use parts::{is_type_a, moment_of, name_of, number_of};
-pub use print::{push_count, push_number};
-pub use replica::{id_of, is_replica_name};
+pub use laws::{
+    data_are_read_back, digits_are_read_back, long_addresses_are_read_back,
+    properties_are_read_back, records_are_read_back, strings_are_read_back,
+};
+pub use property_lines::{property_line, read_property_line};
+pub use read_data::read_rdata;
+pub use record_lines::{read_record_line, record_line};
 pub use row::row_line;
-pub use words::{is_word, words_of};
+pub use types::{is_type_a, type_of};

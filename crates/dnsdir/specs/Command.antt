@@ -3,9 +3,9 @@ use Rattle.std.specs.Prelude.{ℕ, nat_eq, if◌then◌else◌, List, [], ◌∷
 use Rattle.std.specs.List.{slice_split}
 use Rattle.dn_io.specs.declared.outside.Addr.{Addr}
 use Rattle.dn_io.specs.Options.{◌>>=◌}
-use Rattle.dn_text.specs.Addresses.{address_of}
-use Rattle.dn_text.specs.Words.{is_word}
-use Rattle.dn_text.specs.Numbers.{number_within}
+use Rattle.dn_word.specs.Addresses.{address_of}
+use Rattle.dn_word.specs.Words.{is_word}
+use Rattle.dn_word.specs.Numbers.{number_within}
 use Rattle.dnsdir.specs.declared.command.Command.{Command}
 use Rattle.dnsdir.specs.declared.command.Command.TheVariants.{Show, Pack, Replay, Generate, Serve, Usage}
 

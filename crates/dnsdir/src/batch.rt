@@ -6,12 +6,16 @@ ghost use Rattle.dn_world.specs.Laws.{AgesRightly, AnswersAlike};
 ghost use Rattle.dn_world.specs.Runs.{AreProper, IsValidWorld, wrun};
 ghost use Rattle.dn_script.specs.Laws.{IsOneRun};
 ghost use Rattle.dn_script.specs.Play.{play};
+ghost use Rattle.dn_script.specs.ValueLaws.{PackedIsShown, ShownIsPacked};
 ghost use Rattle.dnsdir.specs.Batch.{EndedAs, IsDoneOrWant, IsValid, is_batch};
 ghost use Rattle.dnsdir.specs.Command.{command_in};
 
 use crate::command::{Command, command_of};
 use dn_io::{Sink, Source, Status};
-use dn_script::{a_play_is_one_run, replay};
+use dn_script::{
+    a_play_is_one_run, pack, packed_texts_are_one, packed_values_are_shown, replay, show,
+    shown_texts_are_one, shown_values_are_packed,
+};
 use dn_world::{
     replicas_answer_alike, replies_are_read_rightly, worlds_stay_valid, zones_age_rightly,
 };
@@ -25,8 +29,9 @@ pub fn batch<S: Source, K: Sink>(
     source: &mut S,
     sink: &mut K,
 ) -> Status
-    // Where the source tells: `replay` wrote the transcript of the script that was read, whole where each line is valid,
-    // and up to the first line that isn't, or is over-long; a front of it where a read, a write or a growth failed.
+    // Where the source tells: `replay` wrote the transcript of the script that was read, `show` and `pack` what the lines that
+    // were read give; whole where each line is valid, and up to the first line that isn't, or is over-long; a front of it where a
+    // read, a write or a growth failed.
     ensures written { Told (S.left source.old) (S.left source.new) (λ before now.
         EndedAs (command_in (map (λ word. word.now) words.now)) before result now (K.written sink.old) (K.written sink.new)) }
 
@@ -73,14 +78,25 @@ pub fn batch<S: Source, K: Sink>(
     // header alone with the request's number, opcode and RD, and the code.
     ensures replies { (list : List WorldEvent) → AreProper list → (at : ℕ) (request : List ℕ)
         → IsReadRightly (wrun list) at request (reply_to (wrun list) at request) }
+
+    // What `show` writes of the bytes of a value is packed into the line of the same bytes, and that line is shown as what `show`
+    // wrote, for every value.
+    ensures packed { ShownIsPacked }
+    ensures shown { PackedIsShown }
 {
     a_play_is_one_run();
     worlds_stay_valid();
     replicas_answer_alike();
     zones_age_rightly();
     replies_are_read_rightly();
+    shown_texts_are_one();
+    packed_texts_are_one();
+    shown_values_are_packed();
+    packed_values_are_shown();
     match command_of(words) {
         Command::Replay => replay(alloc, source, sink),
+        Command::Show => show(alloc, source, sink),
+        Command::Pack => pack(alloc, source, sink),
         _ => Status::Usage,
     }
 }

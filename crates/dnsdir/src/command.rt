@@ -1,10 +1,10 @@
 ghost use Rattle.std.specs.Prelude.{◌≡◌, [], ◌∷◌, false, nat_eq, length, map, MatchOption};
 ghost use Rattle.std.specs.List.{slice_split};
-ghost use Rattle.dn_text.specs.Numbers.{number_within};
+ghost use Rattle.dn_word.specs.Numbers.{number_within};
 ghost use Rattle.dnsdir.specs.Command.{addr_of, command_alone, command_in, generate_command, serve_command};
 
 use dn_io::Addr;
-use dn_text::{cut, ip_of, number_within};
+use dn_word::{cut, ip_of, number_within};
 
 /// What the words of the command line ask for.
 #[derive(Clone, Copy, Debug, PartialEq, Eq)]
@@ -27,7 +27,7 @@ pub enum Command {
 const MOST_STEPS: u64 = 1_000_000;
 
 // The two parts of a word with one colon.
-#[tactic(auto, using(dn_text::proofs::CallerLemmas::has_parts))]
+#[tactic(auto, using(dn_word::proofs::CallerLemmas::has_parts))]
 fn halves(word: &[u8]) -> Option<(&[u8], &[u8])>
     ensures { let parts = slice_split (λ byte. nat_eq byte 58) word.now in
         MatchOption result (nat_eq (length parts) 2 ≡ false) (λ two. parts ≡ two.0.now ∷ two.1.now ∷ []) }

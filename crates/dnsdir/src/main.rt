@@ -16,13 +16,17 @@ use std::rt::Env;
 use std::{env, io};
 
 const HELP: &str = "\
-Replays an incident of DNS servers whose zones are directory nodes.
+Replays an incident of DNS servers whose zones are directory nodes, and shows and packs the values that they store.
 
 usage: dnsdir replay < SCRIPT
+       dnsdir show < BYTES
+       dnsdir pack < VALUES
        dnsdir --help
        dnsdir --version
 
 replay   reads a script from standard input and writes its transcript to standard output
+show     reads records and properties as hex digits, and writes each as text, or what is wrong with it first
+pack     reads such text, and writes records and properties as hex digits
 
 A script, and what it prints:
 
@@ -33,13 +37,25 @@ A script, and what it prints:
 
     ok 1
 
+A line for `show`, and what it prints:
+
+    record 0400010005f000000700000000000e1000000000010000000a000001
+
+    record A ttl=3600 hour=1 rank=240 flags=0 serial=7 reserved=0 10.0.0.1
+
+A line for `pack`, and what it prints:
+
+    property AGING_STATE name_length=4 flag=0 content=01000000 tail=00
+
+    property 04000000040000000000000001000000400000000100000000
+
 The status is 0 where each line was valid, 1 at the first line that isn't, 2 for other words, 3 where a read failed,
 4 where a write failed, 5 where memory ran out, and 6 where a line has more than 200,000 bytes or reaches past byte 2^30.
 ";
 
 const VERSION: &str = "dnsdir 0.1.0\n";
 
-const USAGE: &str = "usage: dnsdir replay < SCRIPT (dnsdir --help says more)\n";
+const USAGE: &str = "usage: dnsdir replay|show|pack < INPUT (dnsdir --help says more)\n";
 
 // Why there are no words: one of them isn't UTF-8, or memory ran out.
 fn status_of(error: io::Error) -> Status {

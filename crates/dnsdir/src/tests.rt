@@ -183,3 +183,43 @@ fn other_words_are_refused(rt: HostRuntime) {
     let words = ["replay", "now"];
     check_batch(&rt, alloc, &words, &mut source, false, Status::Usage, "");
 }
+
+// The lines of an input that are given to a command, and what is written of them.
+fn check_values(rt: &impl Abort, alloc: Global, word: &str, input: &str, output: &str) {
+    let mut source = SureSource::of(list_of(rt, alloc, input.as_bytes()));
+    let words = [word];
+    check_batch(rt, alloc, &words, &mut source, false, Status::Done, output);
+}
+
+#[test]
+fn shown_values(rt: HostRuntime) {
+    for (input, output) in [
+        (
+            "record 0400010005f000000700000000000e1000000000010000000a000001\n",
+            "record A ttl=3600 hour=1 rank=240 flags=0 serial=7 reserved=0 10.0.0.1\n",
+        ),
+        (
+            "record 0500010005f000000700000000000e1000000000010000000a000001\n",
+            "fault LengthDiffers at 0 said 5 found 4\n",
+        ),
+        ("property 0400\n", "fault Short at 2\n"),
+    ] {
+        check_values(&rt, rt.alloc(), "show", input, output);
+    }
+}
+
+#[test]
+fn packed_values(rt: HostRuntime) {
+    for (input, output) in [
+        (
+            "record A ttl=3600 hour=1 rank=240 flags=0 serial=7 reserved=0 10.0.0.1\n",
+            "record 0400010005f000000700000000000e1000000000010000000a000001\n",
+        ),
+        (
+            "property AGING_STATE name_length=4 flag=0 content=01000000 tail=00\n",
+            "property 04000000040000000000000001000000400000000100000000\n",
+        ),
+    ] {
+        check_values(&rt, rt.alloc(), "pack", input, output);
+    }
+}

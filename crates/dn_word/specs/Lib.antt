@@ -1,0 +1,10 @@
+pub mod Addresses
+pub mod Hex
+pub mod Laws
+pub mod Moments
+pub mod Names
+pub mod Numbers
+pub mod Print
+pub mod Reading
+pub mod Replicas
+pub mod Words
