@@ -1,14 +1,13 @@
 -- What holds of each element of a list, and which elements a test keeps.
-use Rattle.std.proofs.Common.{◌≡◌, ℕ, zero, suc, ◌+◌, ◌≤◌, Bool, true, false, cond, List, [], ◌∷◌, ◌++◌, length, drop, filter, find, map, take, take-append-drop, take_all, None, Some, refl, ap, sym, subst, ◌∙◌, arith, ⊎_elim}
-use Rattle.std.proofs.lemmas.Bool.{cases_Bool, cond_both, false_from_ne_true, false≢true, ltb-false}
+use Rattle.std.proofs.Common.{◌≡◌, ℕ, zero, suc, ◌+◌, ◌≤◌, Bool, true, List, [], ◌∷◌, ◌++◌, length, drop, filter, find, map, take, take-append-drop, take_all, None, Some, refl, ap, sym, subst, ◌∙◌, arith, ⊎_elim}
+use Rattle.std.proofs.lemmas.Bool.{cases_Bool, cond_both, false_from_ne_true, false≢true}
 use Rattle.std.proofs.lemmas.List.{take_more}
 use Rattle.std.proofs.lemmas.List.Elements.{All-append, All-filter, All-from_recursion, All-get_or, All-map, All-take, All-weaker, filter_passes, recursion_from_All}
 use Rattle.std.proofs.lemmas.List.Sorted.{All-permutation}
-use Rattle.std.proofs.lemmas.List.Sums.{prefix_len-le-length}
 use Rattle.std.proofs.lemmas.Option.{get_or_from_slice_get, none-some, slice_get_cases, slice_get_within}
-use Rattle.std.specs.List.{All, AllByRecursion, position_or_len}
+use Rattle.std.specs.List.{All, AllByRecursion}
 use Rattle.std.specs.List.Sorted.{IsPermutation, IsStrictlySortedBy}
-use Rattle.std.specs.Prelude.{nat_lt, not, position, slice_get, unwrap_or}
+use Rattle.std.specs.Prelude.{slice_get}
 use Rattle.std.specs.declared.cmp.Ordering.{Ordering}
 use Rattle.std.specs.declared.cmp.Ordering.TheVariants.{Less}
 
@@ -103,16 +102,3 @@ unfolding IsStrictlySortedBy
 sorted_take order zero list sorted = tt
 sorted_take order (suc count) [] sorted = tt
 sorted_take order (suc count) (one ∷ list) sorted = (all_take (λ later. order one later ≡ Less) count list sorted.0, sorted_take order count list sorted.1)
-
--- ---- places
-
-pub place-le : {X : Type 0} (test : X → Bool) (list : List X) → position_or_len test list ≤ length list
-place-le test list = prefix_len-le-length (λ one. not (test one)) list
-
-place_by : (at len : ℕ) (b : Bool) → nat_lt at len ≡ b → at ≤ len → unwrap_or (cond b (Some at) None) len ≡ at
-place_by at len true is le = refl
-place_by at len false is le = let past : len ≤ at = ltb-false at len is in omega arith
-
--- the place of the first that passes, or behind the last where none does
-pub place_or_len : {X : Type 0} (test : X → Bool) (list : List X) → unwrap_or (position test list) (length list) ≡ position_or_len test list
-place_or_len test list = place_by (position_or_len test list) (length list) (nat_lt (position_or_len test list) (length list)) refl (place-le test list)

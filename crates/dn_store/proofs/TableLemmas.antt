@@ -1,5 +1,5 @@
 -- What stays of a table as writes are taken, and the first unit of it above a key.
-use Rattle.std.proofs.Common.{◌≡◌, ℕ, ◌+◌, ◌<◌, ◌≤◌, true, false, List, [], ◌∷◌, length, ap, sym, subst, ◌∙◌, Option, Some}
+use Rattle.std.proofs.Common.{◌≡◌, ℕ, ◌+◌, ◌<◌, ◌≤◌, true, false, List, [], ◌∷◌, length, ap, arith, sym, subst, ◌∙◌, ◌^◌, Option, Some}
 use Rattle.std.proofs.lemmas.Bool.{cond_both, false≢true}
 use Rattle.std.proofs.lemmas.Cmp.{tied_itself}
 use Rattle.std.specs.List.{AllByRecursion}
@@ -13,7 +13,7 @@ use Rattle.dn_store.specs.Table.{change_limit, IsLeastAbove, IsTable, KeysGrow, 
 use Rattle.dn_store.specs.Value.{fits, key_order}
 use Rattle.dn_store.proofs.ListLemmas.{all_then}
 use Rattle.dn_store.proofs.OrderLemmas.{IsAfter, key_total}
-use Rattle.dn_store.proofs.TakenLemmas.{IsSoundList, all_brought, sound_taken}
+use Rattle.dn_store.proofs.TakenLemmas.{IsSoundList, all_brought, length_bound, sound_taken}
 
 -- a table stays a table after a whole batch
 pub table_taken : (list : List units.Unit) (top : ℕ) (writes : List Write) → top + length writes ≤ change_limit → AllByRecursion (λ write. IsTrue (fits write.value)) writes → IsTable list top
@@ -29,6 +29,13 @@ table_taken list top writes most fit table =
       fitting = all_brought (λ unit. IsTrue (fits unit.value)) list top writes brings table.fitting;
       most = most;
     }
+
+-- there are at most as many units as changes
+pub few_units : (list : List units.Unit) (top : ℕ) → IsTable list top → length list < 2 ^ 64
+few_units list top table =
+    let bound : length list ≤ top = length_bound list top table.numbers table.differ in
+    let most : top ≤ 2 ^ 63 = table.most in
+    omega (arith, bound, most)
 
 -- ---- the first unit above a key is the least
 

@@ -1,7 +1,7 @@
 -- What stays of a list of units as writes are taken: the order of the keys, the numbers, and what holds of each unit.
-use Rattle.std.proofs.Common.{◌≡◌, ◌≢◌, ℕ, suc, subst, ◌+◌, ◌<◌, ◌≤◌, true, false, List, [], ◌∷◌, length, map, refl, sym, arith, eqb, ⊎_elim}
+use Rattle.std.proofs.Common.{◌≡◌, ◌≢◌, ℕ, suc, subst, ◌+◌, ◌<◌, ◌≤◌, true, false, List, [], ◌∷◌, length, drop, get_or, map, refl, ap, sym, ◌∙◌, arith, eqb, ⊎_elim}
 use Rattle.std.proofs.lemmas.Bool.{eqb-true, false≢true, ne_eqb, or_cases}
-use Rattle.std.proofs.lemmas.List.{length-map}
+use Rattle.std.proofs.lemmas.List.{drop_more, length-map}
 use Rattle.std.proofs.lemmas.Map.Steps.{length-le_from_distinct_below}
 use Rattle.std.specs.List.{AllByRecursion, IsDistinct, list_any}
 use Rattle.std.specs.List.Sorted.{IsStrictlySortedBy}
@@ -62,7 +62,7 @@ differ_placed unit (next ∷ rest) fresh differ =
       differ_placed unit rest fresh.1 differ.1,
     ))
 
-sound_placed : (top : ℕ) (unit : units.Unit) (list : List units.Unit) → unit.usn ≡ top + 1 → IsSoundList list top → IsSoundList (placed unit list) (top + 1)
+pub sound_placed : (top : ℕ) (unit : units.Unit) (list : List units.Unit) → unit.usn ≡ top + 1 → IsSoundList list top → IsSoundList (placed unit list) (top + 1)
 sound_placed top unit list is sound =
     let Below : units.Unit → Type 0 = λ one. IsNumber top one.usn in
     let Within : units.Unit → Type 0 = λ one. IsNumber (top + 1) one.usn in
@@ -96,6 +96,14 @@ sound_taken list top (write ∷ writes) sound =
     let unit : units.Unit = numbered (top + 1) write in
     let e : (top + 1) + length writes ≡ top + suc (length writes) = omega arith in
     subst (IsSoundList (taken (placed unit list) (top + 1) writes)) e (sound_taken (placed unit list) (top + 1) writes (sound_placed top unit list refl sound))
+
+-- one write more is taken
+pub taken_step : (old new : List units.Unit) (batch : List Write) (number at : ℕ) (unit : units.Unit) (write : Write) (final : List units.Unit) → new ≡ placed unit old → unit ≡ numbered (number + 1) write
+    → write ≡ get_or batch at write → at < length batch → taken old number (drop at batch) ≡ final → taken new (number + 1) (drop (at + 1) batch) ≡ final
+taken_step old new batch number at unit write final is one from lt later =
+    let e : drop at batch ≡ write ∷ drop (at + 1) batch = drop_more batch at write lt ∙ ap (λ (w : Write). w ∷ drop (at + 1) batch) (sym from) in
+    ap (λ (l : List units.Unit). taken l (number + 1) (drop (at + 1) batch)) (is ∙ ap (λ (u : units.Unit). placed u old) one)
+    ∙ ap (taken old number) (sym e) ∙ later
 
 -- ---- different numbers up to a bound are no more than the bound
 

@@ -1,5 +1,7 @@
 pub mod Capitals
 pub mod Contents
+pub mod Fronts
+pub mod Numbers
 pub mod Places
 pub mod Run
 pub mod Table

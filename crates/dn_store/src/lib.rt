@@ -3,12 +3,17 @@
 
 mod changes;
 mod contents;
+mod finding;
+mod held;
+mod marks;
+mod numbers;
 mod order;
 mod rows;
 mod table;
 mod threads;
 mod unit;
 mod value;
+mod writing;
 
 pub use contents::{properties_of, props_number, rows_at, rows_in};
 pub use table::{ChangeRun, Table};

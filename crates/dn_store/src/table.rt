@@ -6,9 +6,13 @@ ghost use Rattle.dn_store.specs.declared.unit.UnitKey.{UnitKey};
 ghost use Rattle.dn_store.specs.Value.{fits};
 
 use crate::changes::run_of;
-use crate::order::{find_above, find_key, take_writes};
+use crate::finding::{find_above, find_key};
+use crate::held::Held;
+use crate::unit::Change;
+use crate::writing::{Drafts, take_writes};
 use crate::{Unit, UnitKey, Write};
-use dn_io::{Duplicate, List, OutOfMemory};
+use dn_io::{List, OutOfMemory};
+use dn_pages::Pages;
 use std::alloc::Global;
 use std::marker::Model;
 
@@ -20,7 +24,10 @@ const MAX_CHANGES: u64 = 1 << 63;
 #[derive(Drop)]
 pub struct Table {
     alloc: Global,
-    units: List<Unit>,
+    // The units in the order of their keys.
+    units: Pages<Held>,
+    // The changes that left them, in the order of their numbers.
+    changes: Pages<Change>,
     top: u64,
 }
 
@@ -30,11 +37,12 @@ impl Model for Table {
 
     ghost Value = { Seq one.Unit × ℕ };
 
-    ghost use Rattle.dn_store.specs.Table.{IsTable};
+    ghost use Rattle.dn_pages.specs.Pages.{joined};
+    ghost use Rattle.dn_store.specs.Numbers.{IsPaged};
 
-    ghost view = { λ table. (table.units, table.top) };
+    ghost view = { λ table. (joined table.units, table.top) };
 
-    ghost invariant = { λ table. IsTable table.units table.top };
+    ghost invariant = { λ table. IsPaged table.units table.changes table.top };
 }
 
 /// The changes above a number, up to `to`.
@@ -51,7 +59,8 @@ impl Table {
     {
         Ok(Table {
             alloc,
-            units: List::new(alloc),
+            units: Pages::empty(alloc)?,
+            changes: Pages::empty(alloc)?,
             top: 0,
         })
     }
@@ -84,14 +93,14 @@ impl Table {
     pub fn count(&self) -> usize
         ensures { result ≡ length self.now.0 }
     {
-        self.units.len()
+        self.units.count()
     }
 
     /// The unit of a key.
     pub fn find(&self, key: &UnitKey) -> Option<&Unit>
         ensures { option_copied result ≡ unit_at key.now self.now.0 }
     {
-        find_key(self.units.as_slice(), key)
+        find_key(&self.units, key)
     }
 
     /// The unit of the least key above a key, of the least of all where no key is given.
@@ -100,7 +109,7 @@ impl Table {
         // No unit above the key is below the answer.
         ensures least { IsLeastAbove (option_copied key.entry) (option_copied result) self.now.0 }
     {
-        find_above(self.units.as_slice(), key)
+        find_above(&self.units, key)
     }
 
     /// A new table in which each write has replaced the unit of its key, under the numbers behind the change count. This
@@ -118,12 +127,32 @@ impl Table {
         ensures written { IfOk result (λ table. AreWritten batch.now table.0) }
         ensures others { (key : UnitKey) → IsNotWritten key batch.now → IfOk result (λ table. unit_at key table.0 ≡ unit_at key self.now.0) }
     {
-        let mut units = self.units.copy(self.alloc)?.into_vec();
-        take_writes(self.alloc, &mut units, self.top, batch.as_slice())?;
+        let start = Drafts {
+            units: self.units.draft(self.alloc)?,
+            changes: self.changes.draft(self.alloc)?,
+        };
+        let Drafts { units, changes } = take_writes(self.alloc, start, self.top, batch.as_slice())?;
         Ok(Table {
             alloc: self.alloc,
-            units: List::of(units),
+            units: units.finish()?,
+            changes: changes.finish()?,
             top: self.top + batch.len() as u64,
+        })
+    }
+
+    /// The same table once more, which shares all of its pages. Nothing is allocated.
+    ///
+    /// # Errors
+    /// `OutOfMemory` where no owner more can be counted.
+    pub fn share(&self) -> Result<Table, OutOfMemory>
+        // The same units and the same change count.
+        ensures { IfOk result (λ table. table ≡ self.now) }
+    {
+        Ok(Table {
+            alloc: self.alloc,
+            units: self.units.share()?,
+            changes: self.changes.share()?,
+            top: self.top,
         })
     }
 
@@ -142,6 +171,6 @@ impl Table {
         ensures differ { IfOk result (λ run. KeysDiffer (map write_of run.units)) }
         ensures fit { IfOk result (λ run. AllByRecursion (λ write. IsTrue (fits write.value)) (map write_of run.units)) }
     {
-        run_of(self.alloc, usn, room, self.top, self.units.as_slice())
+        run_of(self.alloc, usn, room, self.top, &self.units, &self.changes)
     }
 }

@@ -7,19 +7,25 @@ ghost use Rattle.dn_zone.specs.Zone.Preparing.{Prepares};
 
 use crate::event::Answer;
 use crate::zone::{Prepared, Zone};
-use dn_io::{List, Moment, OutOfMemory};
+use dn_io::{Duplicate, List, Moment, OutOfMemory};
 use dn_pass::{Pass, StepPlan, begin, step};
 use dn_store::Write;
 use dn_update::Limit;
 use std::alloc::Global;
 
 impl Zone {
-    // The zone with another pass, or with none.
+    // The zone with another pass, or with none. It shares the units, and copies none of them.
     fn with_pass(&self, alloc: Global, pass: Option<Pass>) -> Result<Zone, OutOfMemory>
         ensures { IfOk result (λ zone. zone ≡ with_pass self.now pass) }
     {
-        self.table.facts();
-        self.after(alloc, &List::new(alloc), pass)
+        Ok(Zone {
+            id: self.id,
+            host: self.host,
+            apex: self.apex,
+            table: self.table.share()?,
+            cursors: self.cursors.copy(alloc)?,
+            pass,
+        })
     }
 
     // A pass begins, where none runs and the zone is due.

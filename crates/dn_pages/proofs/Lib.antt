@@ -1,0 +1,3 @@
+pub mod CallerLemmas
+pub mod CutLemmas
+pub mod JoinedLemmas

@@ -1,0 +1,12 @@
+use Rattle.std.proofs.Common.{◌≡◌, ◌+◌, drop}
+use Rattle.dn_pages.specs.Pages.{joined}
+use Rattle.dn_store.specs.Numbers.{IsKept}
+use Rattle.dn_store.specs.Table.{taken}
+use Rattle.dn_store.proofs.writing.take_writes.Given as goal
+
+abbrev pub invariant-loop-write : goal.invariant-loop-write
+invariant-loop-write l = record {
+  counted : l.number ≡ l.top + l.write-index;
+  rest : taken (joined l.drafts.units) l.number (drop l.write-index l.batch) ≡ taken (joined l.initial.drafts.units) l.top l.batch;
+  kept : IsKept (joined l.drafts.units) (joined l.drafts.changes) l.number;
+}

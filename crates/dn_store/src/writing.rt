@@ -1,0 +1,93 @@
+ghost use Rattle.std.specs.Prelude.{◌≡◌, ◌+◌, ◌≤◌, IfOk, is_some, length, slice_get};
+ghost use Rattle.dn_pages.specs.Pages.{IsInside, joined, rank};
+ghost use Rattle.dn_pages.specs.Search.{IsSettled};
+ghost use Rattle.dn_store.specs.Numbers.{IsKept};
+ghost use Rattle.dn_store.specs.Places.{picked, place_among};
+ghost use Rattle.dn_store.specs.Table.{change_limit, numbered, placed, taken};
+
+use crate::finding::number_with;
+use crate::held::Held;
+use crate::numbers::renumber;
+use crate::unit::{Change, Unit, Write};
+use dn_io::{Duplicate, OutOfMemory};
+use dn_pages::{Draft, Place};
+use std::alloc::Global;
+
+// A table that changes: its units in the order of their keys, and their changes in the order of their numbers.
+#[derive(Drop)]
+pub struct Drafts {
+    pub units: Draft<Held>,
+    pub changes: Draft<Change>,
+}
+
+// Puts a unit into the place of its key.
+fn put_at(
+    alloc: Global,
+    units: Draft<Held>,
+    place: Place,
+    replaces: bool,
+    unit: Unit,
+) -> Result<Draft<Held>, OutOfMemory>
+    requires at { rank units place ≡ place_among unit.key (joined units) }
+    requires inside { IsInside units place }
+    requires settled { IsSettled units place }
+    requires there { replaces ≡ is_some (picked unit.key (slice_get (joined units) (rank units place))) }
+    ensures { IfOk result (λ later. joined later ≡ placed unit (joined units)) }
+{
+    let held = Held::of(alloc, unit)?;
+    if replaces {
+        units.set(place, held)
+    } else {
+        units.insert(place, held)
+    }
+}
+
+// Puts a unit into its place, and its change behind all others.
+fn take_unit(alloc: Global, drafts: Drafts, unit: Unit, top: u64) -> Result<Drafts, OutOfMemory>
+    requires next { unit.usn ≡ top + 1 }
+    requires kept { IsKept (joined drafts.units) (joined drafts.changes) top }
+    ensures placed { IfOk result (λ later. joined later.units ≡ placed unit (joined drafts.units)) }
+    ensures kept { IfOk result (λ later. IsKept (joined later.units) (joined later.changes) (top + 1)) }
+{
+    let Drafts { units, changes } = drafts;
+    let place = units.place_of(&unit.key);
+    let old = number_with(units.item_at(place), &unit.key);
+    let changes = renumber(changes, old, unit.usn, &unit.key)?;
+    let units = put_at(alloc, units, place, old.is_some(), unit)?;
+    Ok(Drafts { units, changes })
+}
+
+// A copy of what the write brings, under its number.
+fn numbered(alloc: Global, number: u64, write: &Write) -> Result<Unit, OutOfMemory>
+    ensures { IfOk result (λ unit. unit ≡ numbered number write.now) }
+{
+    let key = write.key;
+    Ok(Unit {
+        usn: number,
+        key,
+        stamp: write.stamp,
+        value: write.value.copy(alloc)?,
+    })
+}
+
+// Puts each write into its place, the first under the number behind `top`.
+pub fn take_writes(
+    alloc: Global,
+    start: Drafts,
+    top: u64,
+    batch: &[Write],
+) -> Result<Drafts, OutOfMemory>
+    requires most { top + length batch.now ≤ change_limit }
+    requires kept { IsKept (joined start.units) (joined start.changes) top }
+    ensures taken { IfOk result (λ later. joined later.units ≡ taken (joined start.units) top batch.now) }
+    ensures kept { IfOk result (λ later. IsKept (joined later.units) (joined later.changes) (top + length batch.now)) }
+{
+    let mut drafts = start;
+    let mut number = top;
+    for write in batch {
+        let unit = numbered(alloc, number + 1, write)?;
+        drafts = take_unit(alloc, drafts, unit, number)?;
+        number += 1;
+    }
+    Ok(drafts)
+}
