@@ -4,6 +4,10 @@
 #[cfg(test)]
 mod answers;
 #[cfg(test)]
+mod data_texts;
+#[cfg(test)]
+mod data_views;
+#[cfg(test)]
 mod datagrams;
 #[cfg(test)]
 mod fixtures;
@@ -14,17 +18,25 @@ mod messages;
 #[cfg(test)]
 mod names;
 #[cfg(test)]
+mod pages;
+#[cfg(test)]
 mod passes;
+#[cfg(test)]
+mod properties;
 #[cfg(test)]
 mod replies;
 #[cfg(test)]
 mod scripts;
+#[cfg(test)]
+mod stored;
 #[cfg(test)]
 mod tables;
 #[cfg(test)]
 mod texts;
 #[cfg(test)]
 mod updates;
+#[cfg(test)]
+mod value_lines;
 #[cfg(test)]
 mod values;
 #[cfg(test)]

@@ -6,7 +6,7 @@ use dn_io::{List, Moment};
 use dn_pass::{Pass, StepPlan, begin, step};
 use dn_rdata::A;
 use dn_store::{Table, UnitKey, UnitValue, Write};
-use dn_text::push_count;
+use dn_word::push_count;
 use std::alloc::Global;
 use std::process::Abort;
 

@@ -3,11 +3,12 @@ use dn_admin::{answer_line, command_of};
 use dn_io::List;
 use dn_rdata::{A, CNAME, NS, PTR, SOA};
 use dn_stamp::ReplicaId;
-use dn_text::{
-    TextError, cut, id_of, ip_of, is_replica_name, is_type_a, is_word, moment_of, name_of,
-    number_of, number_within, push_count, push_number, row_line, words_of,
-};
+use dn_text::{is_type_a, row_line};
 use dn_update::Limit;
+use dn_word::{
+    TextError, cut, id_of, ip_of, is_replica_name, is_word, moment_of, name_of, number_of,
+    number_within, push_count, push_number, words_of,
+};
 use dn_zone::{AdminCmd, AdminDone, Answer};
 use std::alloc::Global;
 use std::process::Abort;
@@ -243,7 +244,7 @@ fn check_row(rt: &impl Abort, alloc: Global, rtype: u16, rdata: &[u8], want: &st
     check_bytes(rt, line.as_slice(), want.as_bytes(), want);
 }
 
-/// Data of each type that has a text, of another type, and names and numbers that are cut short.
+/// Data of some types, and names, numbers and strings that are cut short.
 #[test]
 fn lines_of_rows(rt: HostRuntime) {
     let rows: [(u16, &[u8], &str); 8] = [
@@ -258,7 +259,7 @@ fn lines_of_rows(rt: HostRuntime) {
         (SOA, b"\0\0\x01", "W\\032.x 3600 SOA . . 16777216 0 0 0 0"),
         (PTR, b"\x02ns", "W\\032.x 3600 PTR "),
         (CNAME, b"\0", "W\\032.x 3600 CNAME ."),
-        (TXT, b"\x01a", "W\\032.x 3600 TYPE16 "),
+        (TXT, b"\x02a", "W\\032.x 3600 TXT \"a\""),
     ];
     for (rtype, rdata, want) in rows {
         check_row(&rt, rt.alloc(), rtype, rdata, want);

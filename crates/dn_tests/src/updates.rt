@@ -5,8 +5,8 @@ use dn_io::List;
 use dn_rdata::{A, AAAA, CNAME, MX, Record};
 use dn_stamp::Stamp;
 use dn_store::{Table, UnitValue, Write, rows_in};
-use dn_text::push_count;
 use dn_update::{Limit, Plan, plan_value, with_added};
+use dn_word::push_count;
 use std::alloc::Global;
 use std::process::Abort;
 
