@@ -7,11 +7,25 @@ use Rattle.std.specs.List.Sorted.{IsStrictlySortedBy}
 use Rattle.std.specs.Prelude.{not}
 use Rattle.std.specs.declared.cmp.Ordering.{Ordering}
 use Rattle.std.specs.declared.cmp.Ordering.TheVariants.{Less}
-use Rattle.dn_pages.specs.Pages.{ArePages, joined, rank}
+use Rattle.dn_pages.specs.Pages.{ArePages, joined, count_before}
 use Rattle.dn_pages.specs.Search.{IsCut, IsHome, starts_below}
-use Rattle.dn_pages.proofs.JoinedLemmas.{before, behind, joined_split, page_at}
+use Rattle.dn_pages.proofs.JoinedLemmas.{before, behind, joined_split}
 
 module _ {X : Type 0} where
+  -- ---- pages of any length, none of them empty
+
+  abbrev pub AreFilled : List (List X) → Type 0
+  AreFilled pages = AllByRecursion (λ (page : List X). 1 ≤ length page) pages
+
+  pub pages_filled : (pages : List (List X)) → ArePages pages → AreFilled pages
+  pages_filled [] sized = tt
+  pages_filled (page ∷ pages) sized = (sized.0.0, pages_filled pages sized.1)
+
+  filled_at : (pages : List (List X)) (at : ℕ) → AreFilled pages → at < length pages → 1 ≤ length (get_or pages at [])
+  filled_at [] at filled lt = absurd (omega arith)
+  filled_at (page ∷ pages) zero filled lt = filled.0
+  filled_at (page ∷ pages) (suc at) filled lt = filled_at pages at filled.1 (omega arith)
+
   -- ---- items of a front, and of a back
 
   item_back : (front back : List X) (at place : ℕ) (d : X) → at ≡ length front + place → get_or (front ++ back) at d ≡ get_or back place d
@@ -37,18 +51,18 @@ module _ {X : Type 0} where
   starts_by_first test (item ∷ page) d le = refl
 
   -- the first item behind a page
-  first_behind : (pages : List (List X)) (page at : ℕ) (d : X) → ArePages pages → page + 1 < length pages → at ≡ length (before pages page) + length (get_or pages page [])
+  first_behind : (pages : List (List X)) (page at : ℕ) (d : X) → AreFilled pages → page + 1 < length pages → at ≡ length (before pages page) + length (get_or pages page [])
       → get_or (joined pages) at d ≡ get_or (get_or pages (page + 1) []) 0 d
-  first_behind pages page at d sized lt is =
+  first_behind pages page at d filled lt is =
       let next : List X = get_or pages (page + 1) [] in
       let more : behind pages page ≡ next ++ joined (drop ((page + 1) + 1) pages) = ap joined (drop_more pages (page + 1) [] lt) in
       ap (λ (list : List X). get_or list at d) (joined_split pages page (omega arith))
       ∙ item_back (before pages page) (get_or pages page [] ++ behind pages page) at (length (get_or pages page [])) d is
       ∙ item_back (get_or pages page []) (behind pages page) (length (get_or pages page [])) 0 d (omega arith)
       ∙ ap (λ (list : List X). get_or list 0 d) more
-      ∙ item_front next (joined (drop ((page + 1) + 1) pages)) 0 d (let least : 1 ≤ length next = (page_at pages (page + 1) sized lt).0 in omega arith)
+      ∙ item_front next (joined (drop ((page + 1) + 1) pages)) 0 d (let least : 1 ≤ length next = filled_at pages (page + 1) filled lt in omega arith)
 
-  whole_length : (pages : List (List X)) (page : ℕ) → page < length pages → length (joined pages) ≡ (length (before pages page) + length (get_or pages page [])) + length (behind pages page)
+  pub whole_length : (pages : List (List X)) (page : ℕ) → page < length pages → length (joined pages) ≡ (length (before pages page) + length (get_or pages page [])) + length (behind pages page)
   whole_length pages page lt =
       let whole = ap length (joined_split pages page lt) in
       let outer = length-append (before pages page) (get_or pages page [] ++ behind pages page) in
@@ -57,27 +71,27 @@ module _ {X : Type 0} where
 
   -- ---- a search among the pages and in one page
 
-  cut_before : (test : X → Bool) (pages : List (List X)) (page at : ℕ) → ArePages pages → IsHome test pages page → IsCut test (get_or pages page []) at
+  cut_before : (test : X → Bool) (pages : List (List X)) (page at : ℕ) → AreFilled pages → IsHome test pages page → IsCut test (get_or pages page []) at
       → (last : ℕ) (d : X) → last + 1 ≡ length (before pages page) + at → test (get_or (joined pages) last d) ≡ true
-  cut_before test pages zero zero sized home cut last d is = absurd (omega arith)
-  cut_before test pages (suc page) zero sized home cut last d is =
-      let least : 1 ≤ length (get_or pages (suc page) []) = (page_at pages (suc page) sized home.within).0 in
+  cut_before test pages zero zero filled home cut last d is = absurd (omega arith)
+  cut_before test pages (suc page) zero filled home cut last d is =
+      let least : 1 ≤ length (get_or pages (suc page) []) = filled_at pages (suc page) filled home.within in
       absurd (false≢true (sym (cut.behind d (omega (arith, least))) ∙ sym (starts_by_first test (get_or pages (suc page) []) d least) ∙ home.from (omega arith)))
-  cut_before test pages page (suc at) sized home cut last d is =
+  cut_before test pages page (suc at) filled home cut last d is =
       let inside : suc at ≤ length (get_or pages page []) = cut.within in
       ap test (item_of pages page last at d home.within (omega (arith, is)) (omega (arith, inside))) ∙ cut.before at d (omega arith)
 
-  cut_behind : (test : X → Bool) (pages : List (List X)) (page at : ℕ) → ArePages pages → IsHome test pages page → IsCut test (get_or pages page []) at
+  cut_behind : (test : X → Bool) (pages : List (List X)) (page at : ℕ) → AreFilled pages → IsHome test pages page → IsCut test (get_or pages page []) at
       → (d : X) → length (before pages page) + at < length (joined pages) → test (get_or (joined pages) (length (before pages page) + at) d) ≡ false
-  cut_behind test pages page at sized home cut d less =
+  cut_behind test pages page at filled home cut d less =
       let inside : at ≤ length (get_or pages page []) = cut.within in
       elim (cases_lt at (length (get_or pages page []))) [
         | inl here ↦ ap test (item_of pages page (length (before pages page) + at) at d home.within refl here) ∙ cut.behind d here
         | inr end ↦
             elim (cases_lt (page + 1) (length pages)) [
               | inl more ↦
-                  let least : 1 ≤ length (get_or pages (page + 1) []) = (page_at pages (page + 1) sized more).0 in
-                  ap test (first_behind pages page (length (before pages page) + at) d sized more (omega (arith, inside, end)))
+                  let least : 1 ≤ length (get_or pages (page + 1) []) = filled_at pages (page + 1) filled more in
+                  ap test (first_behind pages page (length (before pages page) + at) d filled more (omega (arith, inside, end)))
                   ∙ sym (starts_by_first test (get_or pages (page + 1) []) d least) ∙ home.before more
               | inr last ↦
                   let none : length (behind pages page) ≡ 0 = ap (λ (list : List (List X)). length (joined list)) (drop_all (page + 1) pages last) in
@@ -86,18 +100,18 @@ module _ {X : Type 0} where
             ]
       ]
 
-  pub cut_joined : (test : X → Bool) (pages : List (List X)) (page at : ℕ) → ArePages pages → IsHome test pages page → IsCut test (get_or pages page []) at
-      → IsCut test (joined pages) (rank pages (record { page = page; at = at }))
-  cut_joined test pages page at sized home cut =
+  pub cut_joined : (test : X → Bool) (pages : List (List X)) (page at : ℕ) → AreFilled pages → IsHome test pages page → IsCut test (get_or pages page []) at
+      → IsCut test (joined pages) (count_before pages (record { page = page; at = at }))
+  cut_joined test pages page at filled home cut =
       let inside : at ≤ length (get_or pages page []) = cut.within in
       let whole = whole_length pages page home.within in
-      record { within = omega (arith, inside, whole); before = cut_before test pages page at sized home cut; behind = cut_behind test pages page at sized home cut }
+      record { within = omega (arith, inside, whole); before = cut_before test pages page at filled home cut; behind = cut_behind test pages page at filled home cut }
 
   -- the same, for a page as a call saw it, and another name of the place
   pub cut_seen : (test : X → Bool) (pages : List (List X)) (page at found : ℕ) (seen : List X) → ArePages pages → IsHome test pages page → seen ≡ get_or pages page [] → IsCut test seen at
-      → found ≡ rank pages (record { page = page; at = at }) → IsCut test (joined pages) found
+      → found ≡ count_before pages (record { page = page; at = at }) → IsCut test (joined pages) found
   cut_seen test pages page at found seen sized home is cut same =
-      subst (IsCut test (joined pages)) (sym same) (cut_joined test pages page at sized home (subst (λ (list : List X). IsCut test list at) is cut))
+      subst (IsCut test (joined pages)) (sym same) (cut_joined test pages page at (pages_filled pages sized) home (subst (λ (list : List X). IsCut test list at) is cut))
 
   -- ---- in a list in order
 

@@ -4,9 +4,9 @@ use Rattle.std.proofs.lemmas.Bool.{cases_lt}
 use Rattle.std.proofs.lemmas.List.{take_all, take-append-drop, length-append, length-drop, length-take}
 use Rattle.std.specs.List.{insert, remove}
 use Rattle.std.specs.Prelude.{min, slice_get}
-use Rattle.dn_pages.specs.declared.mark.Place.{Place}
-use Rattle.dn_pages.specs.Pages.{ArePages, IsPage, joined, rank}
-use Rattle.dn_pages.specs.Search.{IsSettled}
+use Rattle.dn_pages.specs.declared.mark.Spot.{Spot}
+use Rattle.dn_pages.specs.Pages.{ArePages, IsPage, joined, count_before}
+use Rattle.dn_pages.specs.Pages.{IsSettledSpot}
 
 module _ {X : Type 0} where
   -- ---- pages around one page
@@ -59,55 +59,55 @@ module _ {X : Type 0} where
 
   -- ---- a change of one item, which leaves the items before it alone
 
-  abbrev StepsOver : (List X → ℕ → List X) → Type 0
+  abbrev pub StepsOver : (List X → ℕ → List X) → Type 0
   StepsOver change = (item : X) (list : List X) (at : ℕ) → change (item ∷ list) (suc at) ≡ item ∷ change list at
 
-  in_back : (change : List X → ℕ → List X) → StepsOver change → (front back : List X) (at place : ℕ) → at ≡ length front + place → change (front ++ back) at ≡ front ++ change back place
+  pub in_back : (change : List X → ℕ → List X) → StepsOver change → (front back : List X) (at place : ℕ) → at ≡ length front + place → change (front ++ back) at ≡ front ++ change back place
   in_back change over [] back at place is = let e : at ≡ place = omega arith in ap (change back) e
   in_back change over (item ∷ front) back zero place is = absurd (omega arith)
   in_back change over (item ∷ front) back (suc at) place is = over item (front ++ back) at ∙ ap (λ list. item ∷ list) (in_back change over front back at place (omega arith))
 
   -- that change of a page is the same change of the whole list
-  changed : (change : List X → ℕ → List X) → StepsOver change → (pages new : List (List X)) (place : Place) (page : List X) → place.page < length pages
+  changed : (change : List X → ℕ → List X) → StepsOver change → (pages new : List (List X)) (place : Spot) (page : List X) → place.page < length pages
       → change (get_or pages place.page [] ++ behind pages place.page) place.at ≡ change (get_or pages place.page []) place.at ++ behind pages place.page
-      → page ≡ change (get_or pages place.page []) place.at → new ≡ set pages place.page page → joined new ≡ change (joined pages) (rank pages place)
+      → page ≡ change (get_or pages place.page []) place.at → new ≡ set pages place.page page → joined new ≡ change (joined pages) (count_before pages place)
   changed change over pages new place page lt within made is =
       let start : List X = before pages place.page in
       let rest : List X = get_or pages place.page [] ++ behind pages place.page in
       ap joined is ∙ joined_set pages place.page page lt
       ∙ ap (λ (list : List X). start ++ (list ++ behind pages place.page)) made
       ∙ ap (λ (list : List X). start ++ list) (sym within)
-      ∙ sym (in_back change over start rest (rank pages place) place.at refl)
-      ∙ ap (λ (list : List X). change list (rank pages place)) (sym (joined_split pages place.page lt))
+      ∙ sym (in_back change over start rest (count_before pages place) place.at refl)
+      ∙ ap (λ (list : List X). change list (count_before pages place)) (sym (joined_split pages place.page lt))
 
-  insert_front : (item : X) (front back : List X) (at : ℕ) → at ≤ length front → insert (front ++ back) at item ≡ insert front at item ++ back
+  pub insert_front : (item : X) (front back : List X) (at : ℕ) → at ≤ length front → insert (front ++ back) at item ≡ insert front at item ++ back
   insert_front item [] back zero le = refl
   insert_front item [] back (suc at) le = absurd (omega arith)
   insert_front item (next ∷ front) back zero le = refl
   insert_front item (next ∷ front) back (suc at) le = ap (λ list. next ∷ list) (insert_front item front back at (omega arith))
 
-  set_front : (item : X) (front back : List X) (at : ℕ) → at < length front → set (front ++ back) at item ≡ set front at item ++ back
+  pub set_front : (item : X) (front back : List X) (at : ℕ) → at < length front → set (front ++ back) at item ≡ set front at item ++ back
   set_front item [] back at lt = absurd (omega arith)
   set_front item (next ∷ front) back zero lt = refl
   set_front item (next ∷ front) back (suc at) lt = ap (λ list. next ∷ list) (set_front item front back at (omega arith))
 
-  remove_front : (front back : List X) (at : ℕ) → at < length front → remove (front ++ back) at ≡ remove front at ++ back
+  pub remove_front : (front back : List X) (at : ℕ) → at < length front → remove (front ++ back) at ≡ remove front at ++ back
   remove_front [] back at lt = absurd (omega arith)
   remove_front (next ∷ front) back zero lt = refl
   remove_front (next ∷ front) back (suc at) lt = ap (λ list. next ∷ list) (remove_front front back at (omega arith))
 
-  pub inserted : (pages new : List (List X)) (place : Place) (page : List X) (item : X) → place.page < length pages → place.at ≤ length (get_or pages place.page [])
-      → page ≡ insert (get_or pages place.page []) place.at item → new ≡ set pages place.page page → joined new ≡ insert (joined pages) (rank pages place) item
+  pub inserted : (pages new : List (List X)) (place : Spot) (page : List X) (item : X) → place.page < length pages → place.at ≤ length (get_or pages place.page [])
+      → page ≡ insert (get_or pages place.page []) place.at item → new ≡ set pages place.page page → joined new ≡ insert (joined pages) (count_before pages place) item
   inserted pages new place page item lt le =
       changed (λ list at. insert list at item) (λ first list at. refl) pages new place page lt (insert_front item (get_or pages place.page []) (behind pages place.page) place.at le)
 
-  pub put : (pages new : List (List X)) (place : Place) (page : List X) (item : X) → place.page < length pages → place.at < length (get_or pages place.page [])
-      → page ≡ set (get_or pages place.page []) place.at item → new ≡ set pages place.page page → joined new ≡ set (joined pages) (rank pages place) item
+  pub put : (pages new : List (List X)) (place : Spot) (page : List X) (item : X) → place.page < length pages → place.at < length (get_or pages place.page [])
+      → page ≡ set (get_or pages place.page []) place.at item → new ≡ set pages place.page page → joined new ≡ set (joined pages) (count_before pages place) item
   put pages new place page item lt less =
       changed (λ list at. set list at item) (λ first list at. refl) pages new place page lt (set_front item (get_or pages place.page []) (behind pages place.page) place.at less)
 
-  pub removed : (pages new : List (List X)) (place : Place) (page : List X) → place.page < length pages → place.at < length (get_or pages place.page [])
-      → page ≡ remove (get_or pages place.page []) place.at → new ≡ set pages place.page page → joined new ≡ remove (joined pages) (rank pages place)
+  pub removed : (pages new : List (List X)) (place : Spot) (page : List X) → place.page < length pages → place.at < length (get_or pages place.page [])
+      → page ≡ remove (get_or pages place.page []) place.at → new ≡ set pages place.page page → joined new ≡ remove (joined pages) (count_before pages place)
   removed pages new place page lt less =
       changed remove (λ first list at. refl) pages new place page lt (remove_front (get_or pages place.page []) (behind pages place.page) place.at less)
 
@@ -123,22 +123,22 @@ module _ {X : Type 0} where
       ∙ sym (in_back (λ list place. insert list place item) (λ first list place. refl) start rest (length start) 0 (omega arith))
       ∙ ap (λ (list : List X). insert list (length start) item) (sym whole)
 
-  only_one : (page : List X) (at : ℕ) → length page ≤ 1 → at < length page → remove page at ≡ []
+  pub only_one : (page : List X) (at : ℕ) → length page ≤ 1 → at < length page → remove page at ≡ []
   only_one [] at le lt = absurd (omega arith)
   only_one (item ∷ []) zero le lt = refl
   only_one (item ∷ []) (suc at) le lt = absurd (omega arith)
   only_one (item ∷ next ∷ page) at le lt = absurd (omega arith)
 
-  pub page_removed : (pages new : List (List X)) (place : Place) → place.page < length pages → length (get_or pages place.page []) ≤ 1 → place.at < length (get_or pages place.page [])
-      → new ≡ take place.page pages ++ drop (place.page + 1) pages → joined new ≡ remove (joined pages) (rank pages place)
+  pub page_removed : (pages new : List (List X)) (place : Spot) → place.page < length pages → length (get_or pages place.page []) ≤ 1 → place.at < length (get_or pages place.page [])
+      → new ≡ take place.page pages ++ drop (place.page + 1) pages → joined new ≡ remove (joined pages) (count_before pages place)
   page_removed pages new place lt le less is =
       let page : List X = get_or pages place.page [] in
       let start : List X = before pages place.page in
       ap joined is ∙ joined_append (take place.page pages) (drop (place.page + 1) pages)
       ∙ ap (λ (list : List X). start ++ (list ++ behind pages place.page)) (sym (only_one page place.at le less))
       ∙ ap (λ (list : List X). start ++ list) (sym (remove_front page (behind pages place.page) place.at less))
-      ∙ sym (in_back remove (λ first list at. refl) start (page ++ behind pages place.page) (rank pages place) place.at refl)
-      ∙ ap (λ (list : List X). remove list (rank pages place)) (sym (joined_split pages place.page lt))
+      ∙ sym (in_back remove (λ first list at. refl) start (page ++ behind pages place.page) (count_before pages place) place.at refl)
+      ∙ ap (λ (list : List X). remove list (count_before pages place)) (sym (joined_split pages place.page lt))
 
   pub page_split : (pages new : List (List X)) (at cut : ℕ) (front back : List X) → at < length pages → front ≡ take cut (get_or pages at []) → back ≡ drop cut (get_or pages at [])
       → new ≡ insert (set pages at front) (at + 1) back → joined new ≡ joined pages
@@ -172,31 +172,12 @@ module _ {X : Type 0} where
   get_front (item ∷ front) back zero lt = refl
   get_front (item ∷ front) back (suc at) lt = get_front front back at (omega arith)
 
-  pub item_there : (pages : List (List X)) (place : Place) → place.page < length pages → place.at < length (get_or pages place.page []) → slice_get (joined pages) (rank pages place) ≡ slice_get (get_or pages place.page []) place.at
+  pub item_there : (pages : List (List X)) (place : Spot) → place.page < length pages → place.at < length (get_or pages place.page []) → slice_get (joined pages) (count_before pages place) ≡ slice_get (get_or pages place.page []) place.at
   item_there pages place lt less =
       let page : List X = get_or pages place.page [] in
-      ap (λ (list : List X). slice_get list (rank pages place)) (joined_split pages place.page lt)
-      ∙ get_back (before pages place.page) (page ++ behind pages place.page) (rank pages place) place.at refl
+      ap (λ (list : List X). slice_get list (count_before pages place)) (joined_split pages place.page lt)
+      ∙ get_back (before pages place.page) (page ++ behind pages place.page) (count_before pages place) place.at refl
       ∙ get_front page (behind pages place.page) place.at less
-
-  drop_back : (front back : List X) (at place : ℕ) → at ≡ length front + place → drop at (front ++ back) ≡ drop place back
-  drop_back [] back at place is = let e : at ≡ place = omega arith in ap (λ (k : ℕ). drop k back) e
-  drop_back (item ∷ front) back zero place is = absurd (omega arith)
-  drop_back (item ∷ front) back (suc at) place is = drop_back front back at place (omega arith)
-
-  drop_front : (front back : List X) (at : ℕ) → at ≤ length front → drop at (front ++ back) ≡ drop at front ++ back
-  drop_front [] back zero le = refl
-  drop_front [] back (suc at) le = absurd (omega arith)
-  drop_front (item ∷ front) back zero le = refl
-  drop_front (item ∷ front) back (suc at) le = drop_front front back at (omega arith)
-
-  pub rest_there : (pages : List (List X)) (place : Place) → place.page < length pages → place.at ≤ length (get_or pages place.page [])
-      → drop (rank pages place) (joined pages) ≡ drop place.at (get_or pages place.page []) ++ behind pages place.page
-  rest_there pages place lt le =
-      let page : List X = get_or pages place.page [] in
-      ap (drop (rank pages place)) (joined_split pages place.page lt)
-      ∙ drop_back (before pages place.page) (page ++ behind pages place.page) (rank pages place) place.at refl
-      ∙ drop_front page (behind pages place.page) place.at le
 
   -- ---- places
 
@@ -206,17 +187,17 @@ module _ {X : Type 0} where
   there_within (first ∷ pages) (suc page) at less = let later : page < length pages = there_within pages page at less in omega arith
 
   -- the end of a page is the start of the next
-  pub next_same : (pages : List (List X)) (page at : ℕ) → page < length pages → at ≡ length (get_or pages page []) → rank pages (record { page = page + 1; at = 0 }) ≡ rank pages (record { page = page; at = at })
+  pub next_same : (pages : List (List X)) (page at : ℕ) → page < length pages → at ≡ length (get_or pages page []) → count_before pages (record { page = page + 1; at = 0 }) ≡ count_before pages (record { page = page; at = at })
   next_same pages page at lt is = let e = before_next pages page lt in omega (arith, e, is)
 
   -- the end of the last page is behind all items
-  pub end_rank : (pages : List (List X)) (page at : ℕ) → page + 1 ≡ length pages → at ≡ length (get_or pages page []) → rank pages (record { page = page; at = at }) ≡ length (joined pages)
+  pub end_rank : (pages : List (List X)) (page at : ℕ) → page + 1 ≡ length pages → at ≡ length (get_or pages page []) → count_before pages (record { page = page; at = at }) ≡ length (joined pages)
   end_rank pages page at last is =
       let e = before_next pages page (omega arith) in
       let whole : length (before pages (page + 1)) ≡ length (joined pages) = ap (λ (list : List (List X)). length (joined list)) (take_all (page + 1) pages (omega arith)) in
       omega (arith, e, whole, is)
 
-  pub end_settled : (pages : List (List X)) (page at : ℕ) → page + 1 ≡ length pages → at ≡ length (get_or pages page []) → IsSettled pages (record { page = page; at = at })
+  pub end_settled : (pages : List (List X)) (page at : ℕ) → page + 1 ≡ length pages → at ≡ length (get_or pages page []) → IsSettledSpot pages (record { page = page; at = at })
   end_settled pages page at last is less = let e = end_rank pages page at last is in absurd (omega (arith, e, less))
 
   get_past : (list : List X) (at : ℕ) → length list ≤ at → slice_get list at ≡ None
@@ -224,21 +205,21 @@ module _ {X : Type 0} where
   get_past (item ∷ list) zero le = absurd (omega arith)
   get_past (item ∷ list) (suc at) le = get_past list at (omega arith)
 
-  pub item_seen : (pages : List (List X)) (place : Place) → place.page < length pages → IsSettled pages place → slice_get (get_or pages place.page []) place.at ≡ slice_get (joined pages) (rank pages place)
+  pub item_seen : (pages : List (List X)) (place : Spot) → place.page < length pages → IsSettledSpot pages place → slice_get (get_or pages place.page []) place.at ≡ slice_get (joined pages) (count_before pages place)
   item_seen pages place lt settled =
       let page : List X = get_or pages place.page [] in
-      elim (cases_lt (rank pages place) (length (joined pages))) [
+      elim (cases_lt (count_before pages place) (length (joined pages))) [
         | inl less ↦ sym (item_there pages place lt (settled less))
         | inr over ↦
             let whole : length (joined pages) ≡ length (before pages place.page) + length (page ++ behind pages place.page) = ap length (joined_split pages place.page lt) ∙ length-append (before pages place.page) (page ++ behind pages place.page) in
             let parts : length (page ++ behind pages place.page) ≡ length page + length (behind pages place.page) = length-append page (behind pages place.page) in
-            get_past page place.at (omega (arith, whole, parts, over)) ∙ sym (get_past (joined pages) (rank pages place) over)
+            get_past page place.at (omega (arith, whole, parts, over)) ∙ sym (get_past (joined pages) (count_before pages place) over)
       ]
 
-  pub none_past : (pages : List (List X)) (place : Place) → length pages ≤ place.page → None ≡ slice_get (joined pages) (rank pages place)
+  pub none_past : (pages : List (List X)) (place : Spot) → length pages ≤ place.page → None ≡ slice_get (joined pages) (count_before pages place)
   none_past pages place past =
       let whole : length (before pages place.page) ≡ length (joined pages) = ap (λ (list : List (List X)). length (joined list)) (take_all place.page pages past) in
-      sym (get_past (joined pages) (rank pages place) (omega (arith, whole)))
+      sym (get_past (joined pages) (count_before pages place) (omega (arith, whole)))
 
   -- ---- a split page
 
@@ -265,27 +246,24 @@ module _ {X : Type 0} where
       let behind : length back ≡ length seen - cut = ap length second ∙ length-drop cut seen in
       (omega (arith, long, before, twice), omega (arith, long, behind, twice))
 
-  -- a full page that is split: its halves, and the pages
-  pub record IsSplit (pages new : List (List X)) (at : ℕ) : Type 0 where
-    pub sized : ArePages new
-    pub front : length (get_or new at []) ≡ 32
-    pub back : length (get_or new (at + 1) []) ≡ 32
+  halves_long : (page front back : List X) → length page ≡ 64 → front ≡ take 32 page → back ≡ drop 32 page → (length front ≡ 32) × (length back ≡ 32)
+  halves_long page front back whole first second = halves 64 32 page page front back whole refl first second (omega arith)
 
+  -- a full page that is split leaves pages
   pub split_is : (pages new : List (List X)) (at : ℕ) (seen front back : List X) → at < length pages → length (get_or pages at []) ≡ 64 → seen ≡ get_or pages at [] → front ≡ take 32 seen → back ≡ drop 32 seen
-      → new ≡ insert (set pages at front) (at + 1) back → ArePages pages → IsSplit pages new at
+      → new ≡ insert (set pages at front) (at + 1) back → ArePages pages → ArePages new
   split_is pages new at seen front back lt full is first second made sized =
-      let long : (length front ≡ 32) × (length back ≡ 32) = halves 64 32 (get_or pages at []) seen front back full is first second (omega arith) in
+      let long : (length front ≡ 32) × (length back ≡ 32) = halves_long seen front back (ap length is ∙ full) first second in
       let here : IsPage front = (let e = long.0 in omega (arith, e), let e = long.0 in omega (arith, e)) in
       let there : IsPage back = (let e = long.1 in omega (arith, e), let e = long.1 in omega (arith, e)) in
-      subst (λ (row : List (List X)). IsSplit pages row at) (sym made)
-      (record {
-        sized = split_sized pages at front back lt here there sized;
-        front = ap length (split_front pages at front back lt) ∙ long.0;
-        back = ap length (split_back pages at front back lt) ∙ long.1;
-      })
+      subst (λ (row : List (List X)). ArePages row) (sym made) (split_sized pages at front back lt here there sized)
 
-  pub half_next : (pages new : List (List X)) (place : Place) (half : ℕ) → place.page < length new → length (get_or new place.page []) ≡ half → half < place.at → take place.page new ≡ take place.page pages → (at : ℕ) → at + half ≡ place.at
-      → rank new (record { page = place.page + 1; at = at }) ≡ rank pages place
+  pub split_long : (pages new : List (List X)) (at : ℕ) → length (get_or pages at []) ≡ 64 → get_or new at [] ≡ take 32 (get_or pages at []) → get_or new (at + 1) [] ≡ drop 32 (get_or pages at [])
+      → (length (get_or new at []) ≡ 32) × (length (get_or new (at + 1) []) ≡ 32)
+  split_long pages new at full front back = halves_long (get_or pages at []) (get_or new at []) (get_or new (at + 1) []) full front back
+
+  pub half_next : (pages new : List (List X)) (place : Spot) (half : ℕ) → place.page < length new → length (get_or new place.page []) ≡ half → half < place.at → take place.page new ≡ take place.page pages → (at : ℕ) → at + half ≡ place.at
+      → count_before new (record { page = place.page + 1; at = at }) ≡ count_before pages place
   half_next pages new place half lt front less is at rest =
       let e = before_next new place.page lt in
       let s : length (before new place.page) ≡ length (before pages place.page) = ap (λ (list : List (List X)). length (joined list)) is in

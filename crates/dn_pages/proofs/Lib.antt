@@ -1,3 +1,5 @@
 pub mod CallerLemmas
 pub mod CutLemmas
 pub mod JoinedLemmas
+pub mod RowSearchLemmas
+pub mod RowsLemmas

@@ -1,7 +1,5 @@
 -- What a search by halves promises: the tests at its two ends.
 use Rattle.std.specs.Prelude.{◌≡◌, ℕ, ◌+◌, ◌<◌, ◌≤◌, Bool, true, false, List, [], ◌∷◌, length, slice_index_or}
-use Rattle.dn_pages.specs.declared.mark.Place.{Place}
-use Rattle.dn_pages.specs.Pages.{joined, rank}
 
 -- The item before the place passes the test, and the one at the place doesn't.
 pub record IsCut {X : Type 0} (test : X → Bool) (list : List X) (at : ℕ) : Type 0 where
@@ -19,7 +17,3 @@ pub record IsHome {X : Type 0} (test : X → Bool) (pages : List (List X)) (at :
   pub within : at < length pages
   pub from : 0 < at → starts_below test (slice_index_or pages at []) ≡ true
   pub before : at + 1 < length pages → starts_below test (slice_index_or pages (at + 1) []) ≡ false
-
--- the place of an item is in its own page, and no page's end
-abbrev pub IsSettled : {X : Type 0} → List (List X) → Place → Type 0
-IsSettled pages place = rank pages place < length (joined pages) → place.at < length (slice_index_or pages place.page [])

@@ -1,63 +1,63 @@
-ghost use Rattle.std.specs.Prelude.{◌≡◌, ◌<◌, ◌++◌, ◌∷◌, [], IfOk, length, slice_get, slice_index_or, slice_set, option_copied};
+ghost use Rattle.std.specs.Prelude.{◌≡◌, ◌++◌, ◌∷◌, [], IfOk, slice_get, slice_set, option_copied};
 ghost use Rattle.std.specs.List.{insert, remove};
-ghost use Rattle.dn_pages.specs.Pages.{ArePages, IsInside, joined, rank};
-ghost use Rattle.dn_pages.specs.Search.{IsCut, IsSettled};
+ghost use Rattle.dn_pages.specs.Pages.{AreRows, IsInside, IsSettled, IsThere, items, rank};
+ghost use Rattle.dn_pages.specs.Search.{IsCut};
 
 use crate::mark::{Mark, Place};
 use crate::pages::Pages;
-use crate::row::{insert_item, push_item, remove_item, set_item};
-use crate::search::{item_in, place_in};
+use crate::rows::{insert_in_rows, push_in_rows, remove_in_rows, set_in_rows};
+use crate::search_rows::{item_in_rows, place_in_rows};
 use crate::shared::Shared;
 use dn_io::{Duplicate, OutOfMemory};
 use std::alloc::Global;
 use std::marker::Model;
 
-/// Pages that change, as contracts see them the list of the pages. A page is copied where it is shared, once: then it is the
+/// Pages that change, as contracts see them the list of their rows. A page or a row is copied where it is shared, once: then it is the
 /// draft's own. A change that is refused memory gives the draft up, and other owners of its pages never see a change.
 #[derive(Drop)]
 pub struct Draft<T> {
     alloc: Global,
-    row: Vec<Shared<T>>,
+    rows: Vec<Shared<Shared<T>>>,
 }
 
 impl<T> Model for Draft<T> {
     ghost use Rattle.std.specs.Prelude.{List as Seq};
     ghost use Rattle.std.specs.Coded.{coded_list};
-    ghost use Rattle.dn_pages.specs.Pages.{ArePages};
+    ghost use Rattle.dn_pages.specs.Pages.{AreRows};
 
-    ghost Value = { Seq (Seq T) };
+    ghost Value = { Seq (Seq (Seq T)) };
 
-    ghost coded = { coded_list (coded_list T.code) };
+    ghost coded = { coded_list (coded_list (coded_list T.code)) };
 
-    ghost view = { λ draft. draft.row.items };
+    ghost view = { λ draft. draft.rows.items };
 
-    ghost invariant = { λ draft. ArePages draft.row.items };
+    ghost invariant = { λ draft. AreRows draft.rows.items };
 }
 
 impl<T> Draft<T> {
-    // The draft of a row.
-    pub(crate) fn of(alloc: Global, row: Vec<Shared<T>>) -> Self
-        requires { ArePages row.items }
-        ensures { result ≡ row.items }
+    // The draft of rows.
+    pub(crate) fn of(alloc: Global, rows: Vec<Shared<Shared<T>>>) -> Self
+        requires { AreRows rows.items }
+        ensures { result ≡ rows.items }
     {
-        Draft { alloc, row }
+        Draft { alloc, rows }
     }
 
     /// The place of the first item that isn't below the mark.
     pub fn place_of<M: Mark<T>>(&self, mark: &M) -> Place
-        ensures cut { IsCut (M.below mark.now) (joined self.now) (rank self.now result) }
+        ensures cut { IsCut (M.below mark.now) (items self.now) (rank self.now result) }
         ensures inside { IsInside self.now result }
         ensures settled { IsSettled self.now result }
     {
-        place_in(self.row.as_slice(), mark)
+        place_in_rows(self.rows.as_slice(), mark)
     }
 
     /// The item at a place.
     pub fn item_at(&self, place: Place) -> Option<&T>
         requires { IsSettled self.now place }
-        ensures { option_copied result ≡ slice_get (joined self.now) (rank self.now place) }
+        ensures { option_copied result ≡ slice_get (items self.now) (rank self.now place) }
     {
-        item_in(self.row.as_slice(), place)
+        item_in_rows(self.rows.as_slice(), place)
     }
 }
 
@@ -67,12 +67,12 @@ impl<T: Duplicate + Drop> Draft<T> {
     /// # Errors
     /// `OutOfMemory`.
     pub fn set(self, place: Place, item: T) -> Result<Self, OutOfMemory>
-        requires { place.at < length (slice_index_or self place.page []) }
-        ensures { IfOk result (λ draft. joined draft ≡ slice_set (joined self) (rank self place) item) }
+        requires { IsThere self place }
+        ensures { IfOk result (λ draft. items draft ≡ slice_set (items self) (rank self place) item) }
     {
-        let Draft { alloc, mut row } = self;
-        set_item(alloc, &mut row, place, item)?;
-        Ok(Draft { alloc, row })
+        let Draft { alloc, mut rows } = self;
+        set_in_rows(alloc, &mut rows, place, item)?;
+        Ok(Draft { alloc, rows })
     }
 
     /// The draft with an item before the one at a place, or behind all.
@@ -81,11 +81,11 @@ impl<T: Duplicate + Drop> Draft<T> {
     /// `OutOfMemory`.
     pub fn insert(self, place: Place, item: T) -> Result<Self, OutOfMemory>
         requires { IsInside self place }
-        ensures { IfOk result (λ draft. joined draft ≡ insert (joined self) (rank self place) item) }
+        ensures { IfOk result (λ draft. items draft ≡ insert (items self) (rank self place) item) }
     {
-        let Draft { alloc, mut row } = self;
-        insert_item(alloc, &mut row, place, item)?;
-        Ok(Draft { alloc, row })
+        let Draft { alloc, mut rows } = self;
+        insert_in_rows(alloc, &mut rows, place, item)?;
+        Ok(Draft { alloc, rows })
     }
 
     /// The draft without the item at a place.
@@ -93,12 +93,12 @@ impl<T: Duplicate + Drop> Draft<T> {
     /// # Errors
     /// `OutOfMemory`.
     pub fn remove(self, place: Place) -> Result<Self, OutOfMemory>
-        requires { place.at < length (slice_index_or self place.page []) }
-        ensures { IfOk result (λ draft. joined draft ≡ remove (joined self) (rank self place)) }
+        requires { IsThere self place }
+        ensures { IfOk result (λ draft. items draft ≡ remove (items self) (rank self place)) }
     {
-        let Draft { alloc, mut row } = self;
-        remove_item(alloc, &mut row, place)?;
-        Ok(Draft { alloc, row })
+        let Draft { alloc, mut rows } = self;
+        remove_in_rows(alloc, &mut rows, place)?;
+        Ok(Draft { alloc, rows })
     }
 
     /// The draft with an item behind all.
@@ -106,11 +106,11 @@ impl<T: Duplicate + Drop> Draft<T> {
     /// # Errors
     /// `OutOfMemory`.
     pub fn push(self, item: T) -> Result<Self, OutOfMemory>
-        ensures { IfOk result (λ draft. joined draft ≡ joined self ++ item ∷ []) }
+        ensures { IfOk result (λ draft. items draft ≡ items self ++ item ∷ []) }
     {
-        let Draft { alloc, mut row } = self;
-        push_item(alloc, &mut row, item)?;
-        Ok(Draft { alloc, row })
+        let Draft { alloc, mut rows } = self;
+        push_in_rows(alloc, &mut rows, item)?;
+        Ok(Draft { alloc, rows })
     }
 
     /// The pages as they are now.
@@ -120,7 +120,7 @@ impl<T: Duplicate + Drop> Draft<T> {
     pub fn finish(self) -> Result<Pages<T>, OutOfMemory>
         ensures { IfOk result (λ pages. pages ≡ self) }
     {
-        let Draft { alloc, row } = self;
-        Pages::of(alloc, row)
+        let Draft { alloc, rows } = self;
+        Pages::of(alloc, rows)
     }
 }

@@ -5,11 +5,12 @@ mod draft;
 mod mark;
 mod pages;
 mod row;
+mod rows;
 mod search;
+mod search_rows;
 mod shared;
 mod threads;
 
 pub use draft::Draft;
 pub use mark::{Mark, Place};
 pub use pages::Pages;
-pub use shared::Shared;

@@ -1,8 +1,8 @@
-ghost use Rattle.std.specs.Prelude.{◌≡◌, ◌<◌, ◌≤◌, ◌+◌, ◌++◌, [], drop, length, slice_get, slice_index_or, option_copied};
-ghost use Rattle.dn_pages.specs.Pages.{ArePages, IsInside, joined, rank};
-ghost use Rattle.dn_pages.specs.Search.{IsCut, IsHome, IsSettled, starts_below};
+ghost use Rattle.std.specs.Prelude.{◌≡◌, ◌<◌, ◌≤◌, ◌+◌, ◌^◌, [], length, slice_get, slice_index_or, option_copied};
+ghost use Rattle.dn_pages.specs.Pages.{ArePages, IsSettledSpot, IsWithin, count_before, joined};
+ghost use Rattle.dn_pages.specs.Search.{IsCut, IsHome, starts_below};
 
-use crate::mark::{Mark, Place};
+use crate::mark::{Mark, Spot};
 use crate::shared::Shared;
 
 // The place of the first item that isn't below the mark, by halves.
@@ -34,7 +34,7 @@ fn page_starts_below<T, M: Mark<T>>(pages: &[Shared<T>], at: usize, mark: &M) ->
 }
 
 // The last page whose first item is below the mark, or the first page, by halves.
-fn home_of<T, M: Mark<T>>(pages: &[Shared<T>], mark: &M) -> usize
+pub fn home_of<T, M: Mark<T>>(pages: &[Shared<T>], mark: &M) -> usize
     requires { 0 < length pages.now }
     ensures { IsHome (M.below mark.now) pages.now result }
 {
@@ -51,34 +51,34 @@ fn home_of<T, M: Mark<T>>(pages: &[Shared<T>], mark: &M) -> usize
     low
 }
 
-// The same place, at the start of the next page in place of the end of a page.
-fn settled<T>(pages: &[Shared<T>], page: usize, at: usize) -> Place
+// The same spot, at the start of the next page in place of the end of a page.
+pub fn settled<T>(pages: &[Shared<T>], page: usize, at: usize) -> Spot
     requires sized { ArePages pages.now }
     requires within { page < length pages.now }
     requires inside { at ≤ length (slice_index_or pages.now page []) }
-    ensures same { rank pages.now result ≡ rank pages.now (record { page = page; at = at }) }
-    ensures inside { IsInside pages.now result }
-    ensures settled { IsSettled pages.now result }
+    ensures same { count_before pages.now result ≡ count_before pages.now (record { page = page; at = at }) }
+    ensures inside { IsWithin pages.now result }
+    ensures settled { IsSettledSpot pages.now result }
 {
     if at < pages[page].as_slice().len() {
-        return Place { page, at };
+        return Spot { page, at };
     }
     if page + 1 < pages.len() {
         let page = page + 1;
-        return Place { page, at: 0 };
+        return Spot { page, at: 0 };
     }
-    Place { page, at }
+    Spot { page, at }
 }
 
-// The place of the first item that isn't below the mark.
-pub fn place_in<T, M: Mark<T>>(pages: &[Shared<T>], mark: &M) -> Place
+// The spot of the first item that isn't below the mark.
+pub fn spot_in<T, M: Mark<T>>(pages: &[Shared<T>], mark: &M) -> Spot
     requires { ArePages pages.now }
-    ensures cut { IsCut (M.below mark.now) (joined pages.now) (rank pages.now result) }
-    ensures inside { IsInside pages.now result }
-    ensures settled { IsSettled pages.now result }
+    ensures cut { IsCut (M.below mark.now) (joined pages.now) (count_before pages.now result) }
+    ensures inside { IsWithin pages.now result }
+    ensures settled { IsSettledSpot pages.now result }
 {
     if pages.is_empty() {
-        return Place { page: 0, at: 0 };
+        return Spot { page: 0, at: 0 };
     }
     let page = home_of(pages, mark);
     let at = cut_of(pages[page].as_slice(), mark);
@@ -92,15 +92,15 @@ fn nth<T>(items: &[T], at: usize) -> Option<&T>
     items.get(at)
 }
 
-// The item at a place.
-pub fn item_in<T>(pages: &[Shared<T>], place: Place) -> Option<&T>
-    requires { IsSettled pages.now place }
-    ensures { option_copied result ≡ slice_get (joined pages.now) (rank pages.now place) }
+// The item at a spot.
+pub fn item_in<T>(pages: &[Shared<T>], spot: Spot) -> Option<&T>
+    requires { IsSettledSpot pages.now spot }
+    ensures { option_copied result ≡ slice_get (joined pages.now) (count_before pages.now spot) }
 {
-    if place.page >= pages.len() {
+    if spot.page >= pages.len() {
         return None;
     }
-    nth(pages[place.page].as_slice(), place.at)
+    nth(pages[spot.page].as_slice(), spot.at)
 }
 
 // The first item.
@@ -115,15 +115,15 @@ pub fn first_in<T>(pages: &[Shared<T>]) -> Option<&T>
     nth(pages[0].as_slice(), 0)
 }
 
-// What stands from a place on: the rest of its page, and the pages behind it.
-pub fn rest_in<T>(pages: &[Shared<T>], place: Place) -> (&[T], &[Shared<T>])
-    requires { IsInside pages.now place }
-    ensures { result.0.now ++ joined result.1.now ≡ drop (rank pages.now place) (joined pages.now) }
+// How many items the pages have.
+#[tactic(auto, using(crate::proofs::JoinedLemmas::joined_more))]
+pub fn items_of<T>(pages: &[Shared<T>]) -> usize
+    requires { length (joined pages.now) < 2 ^ 64 }
+    ensures { result ≡ length (joined pages.now) }
 {
-    if place.page >= pages.len() {
-        return (&[], &[]);
+    let mut count: usize = 0;
+    for page in pages {
+        count += page.as_slice().len();
     }
-    let (_, items) = pages[place.page].as_slice().split_at(place.at);
-    let (_, behind) = pages.split_at(place.page + 1);
-    (items, behind)
+    count
 }

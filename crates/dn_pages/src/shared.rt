@@ -4,6 +4,7 @@ ghost use Rattle.std.specs.List.{insert, remove};
 use dn_io::{Duplicate, OutOfMemory};
 use std::alloc::Global;
 use std::marker::Model;
+use std::mem;
 use std::sync::Arc;
 
 /// A list that several owners share, as contracts see it the list of its items. A change by one owner is seen by no other:
@@ -77,88 +78,69 @@ pub fn copies<T: Duplicate + Drop>(alloc: Global, items: &[T]) -> Result<Vec<T>,
 }
 
 impl<T: Duplicate + Drop> Shared<T> {
-    /// Puts an item in the place of another.
-    ///
-    /// # Errors
-    /// `OutOfMemory`.
+    // Takes the items out: the list's own, in whose place it is left empty, or copies where there are other owners.
+    pub fn take(&mut self, alloc: Global) -> Result<Vec<T>, OutOfMemory>
+        ensures { IfOk result (λ items. items.items ≡ self.old) }
+    {
+        match Arc::get_mut(&mut self.items) {
+            Some(own) => Ok(mem::replace(own, Vec::new(alloc))),
+            None => copies(alloc, self.items.as_slice()),
+        }
+    }
+
+    // Puts items in the place of those that are there. Other owners keep what they have.
+    pub fn give(&mut self, alloc: Global, items: Vec<T>) -> Result<(), OutOfMemory>
+        ensures { OnOk result (self.new ≡ items.items) }
+    {
+        match Arc::get_mut(&mut self.items) {
+            Some(own) => {
+                *own = items;
+            }
+            None => {
+                *self = Shared::of(alloc, items)?;
+            }
+        }
+        Ok(())
+    }
+
+    // Puts an item in the place of another.
     pub fn set(&mut self, alloc: Global, at: usize, item: T) -> Result<(), OutOfMemory>
         requires { at < length self.old }
         ensures { OnOk result (self.new ≡ slice_set self.old at item) }
     {
-        match Arc::get_mut(&mut self.items) {
-            Some(own) => {
-                own[at] = item;
-            }
-            None => {
-                let mut items = copies(alloc, self.items.as_slice())?;
-                items[at] = item;
-                *self = Shared::of(alloc, items)?;
-            }
-        }
-        Ok(())
+        let mut items = self.take(alloc)?;
+        items[at] = item;
+        self.give(alloc, items)
     }
 
-    /// Puts an item before the one at a place, or behind all.
-    ///
-    /// # Errors
-    /// `OutOfMemory`.
+    // Puts an item before the one at a place, or behind all.
     pub fn insert(&mut self, alloc: Global, at: usize, item: T) -> Result<(), OutOfMemory>
         requires { at ≤ length self.old }
         ensures { OnOk result (self.new ≡ insert self.old at item) }
     {
-        match Arc::get_mut(&mut self.items) {
-            Some(own) => {
-                own.insert(at, item)?;
-            }
-            None => {
-                let mut items = copies(alloc, self.items.as_slice())?;
-                items.insert(at, item)?;
-                *self = Shared::of(alloc, items)?;
-            }
-        }
-        Ok(())
+        let mut items = self.take(alloc)?;
+        items.insert(at, item)?;
+        self.give(alloc, items)
     }
 
-    /// Takes an item out.
-    ///
-    /// # Errors
-    /// `OutOfMemory`.
+    // Takes an item out.
     pub fn remove(&mut self, alloc: Global, at: usize) -> Result<(), OutOfMemory>
         requires { at < length self.old }
         ensures { OnOk result (self.new ≡ remove self.old at) }
     {
-        match Arc::get_mut(&mut self.items) {
-            Some(own) => {
-                own.remove(at);
-            }
-            None => {
-                let mut items = copies(alloc, self.items.as_slice())?;
-                items.remove(at);
-                *self = Shared::of(alloc, items)?;
-            }
-        }
-        Ok(())
+        let mut items = self.take(alloc)?;
+        items.remove(at);
+        self.give(alloc, items)
     }
 
-    /// Cuts the items from a place on off, which become a list of their own.
-    ///
-    /// # Errors
-    /// `OutOfMemory`.
+    // Cuts the items from a place on off, which become a list of their own.
     pub fn split_off(&mut self, alloc: Global, at: usize) -> Result<Self, OutOfMemory>
         requires { at ≤ length self.old }
         ensures { IfOk result (λ back. (self.new ≡ take at self.old) × (back ≡ drop at self.old)) }
     {
-        match Arc::get_mut(&mut self.items) {
-            Some(own) => {
-                let back = own.split_off(at)?;
-                Shared::of(alloc, back)
-            }
-            None => {
-                let mut items = copies(alloc, self.items.as_slice())?;
-                let back = items.split_off(at)?;
-                *self = Shared::of(alloc, items)?;
-                Shared::of(alloc, back)
-            }
-        }
+        let mut items = self.take(alloc)?;
+        let back = items.split_off(at)?;
+        self.give(alloc, items)?;
+        Shared::of(alloc, back)
     }
 }

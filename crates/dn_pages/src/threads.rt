@@ -1,6 +1,7 @@
 //! Pages of such items are Send and Sync: these calls can be made for such types alone.
 
-use crate::{Draft, Pages, Place, Shared};
+use crate::shared::Shared;
+use crate::{Draft, Pages, Place};
 
 fn crosses<T: Send + Sync>() {}
 

@@ -1,104 +1,26 @@
 -- The front of the changes above a number, grown change by change.
-use Rattle.std.proofs.Common.{◌≡◌, ℕ, ◌+◌, ◌<◌, Bool, true, false, List, [], ◌∷◌, ◌++◌, length, get_or, take, drop, filter, map, refl, ap, sym, subst, ◌∙◌, arith, cond, nat_lt, append-nil, append_assoc, length-append, Option, Some, None}
+use Rattle.std.proofs.Common.{◌≡◌, ℕ, suc, ◌+◌, ◌-◌, ◌<◌, Bool, true, false, List, [], ◌∷◌, ◌++◌, length, drop, filter, map, refl, ap, sym, subst, ◌∙◌, arith, cond, nat_le, nat_lt, append-nil, append_assoc, length-append, Option, Some, None}
 use Rattle.std.proofs.lemmas.Bool.Decides.{nat_tests}
-use Rattle.std.proofs.lemmas.List.{take-append-drop, take_more}
 use Rattle.std.proofs.lemmas.Bool.{false≢true}
+use Rattle.std.proofs.lemmas.List.{drop_all, drop_more}
+use Rattle.std.proofs.lemmas.Option.{get_or_from_slice_get, slice_get_within}
 use Rattle.std.specs.List.{AllByRecursion, position_or_len}
 use Rattle.std.specs.List.Sorted.{IsStrictlySortedBy}
 use Rattle.std.specs.Ordering.{is_eq}
-use Rattle.std.specs.Prelude.{◌==◌, is_some, not}
-use Rattle.dn_pages.specs.Pages.{joined}
+use Rattle.std.specs.Prelude.{◌==◌, not, slice_get}
 use Rattle.dn_pages.specs.Search.{IsCut}
-use Rattle.dn_pages.proofs.CallerLemmas.{cut_place, joined_append}
+use Rattle.dn_pages.proofs.CallerLemmas.{cut_place}
 use Rattle.dn_store.specs.declared.unit.Unit as units
 use Rattle.dn_store.specs.declared.unit.Change.{Change}
-use Rattle.dn_store.specs.Fronts.{Fronted, IsFront, left_by, prepend}
+use Rattle.dn_store.specs.Fronts.{IsFront, added, left_by, prepend}
 use Rattle.dn_store.specs.Numbers.{IsKept, Rising, change_of, change_order}
-use Rattle.dn_store.specs.Table.{KeysGrow, by_number, front_within, has_key, newer, placed_by_number, unit_at}
-use Rattle.dn_store.proofs.ListLemmas.{all_both, all_filter, all_permuted}
+use Rattle.dn_store.specs.Table.{KeysGrow, by_number, form_size, front_within, has_key, newer, placed_by_number, unit_at}
+use Rattle.dn_store.proofs.ListLemmas.{all_both, all_filter, all_permuted, over_end}
 use Rattle.dn_store.proofs.NumberLemmas.{sorted_permutes}
 use Rattle.dn_store.proofs.NumberingLemmas.{after_rises, drop_place, rising_kept}
 use Rattle.dn_store.proofs.OrderLemmas.{IsAfter, key_same}
 
 -- ---- growing
-
-pub fronted_then : (old mid new first second : List units.Unit) (room left : ℕ) (o : Option ℕ) → Fronted old room first mid (Some left) → Fronted mid left second new o → Fronted old room (first ++ second) new o
-fronted_then old mid new first second room left (Some k) a b = (
-  b.0 ∙ ap (λ (l : List units.Unit). l ++ second) a.0 ∙ append_assoc old first second,
-  λ rest. b.1 rest ∙ a.1 (second ++ rest) ∙ ap (λ (l : List units.Unit). old ++ front_within room l) (sym (append_assoc first second rest)),
-)
-fronted_then old mid new first second room left None a b = λ rest.
-    let e : (first ++ second) ++ rest ≡ first ++ (second ++ rest) = append_assoc first second rest in
-    let same : mid ++ front_within left (second ++ rest) ≡ old ++ front_within room (first ++ (second ++ rest)) = a.1 (second ++ rest) in
-    let n1 : length (mid ++ front_within left (second ++ rest)) ≡ length (old ++ front_within room (first ++ (second ++ rest))) = ap length same in
-    let n2 : length mid ≡ length (old ++ first) = ap length a.0 in
-    let less : length (front_within left (second ++ rest)) < length (second ++ rest) = (b rest).1 in
-    let few : length (front_within room (first ++ (second ++ rest))) < length (first ++ (second ++ rest)) =
-    omega (arith, n1, n2, less, length-append mid (front_within left (second ++ rest)), length-append old (front_within room (first ++ (second ++ rest))), length-append old first, length-append first (second ++ rest)) in (
-      (b rest).0 ∙ same ∙ ap (λ (l : List units.Unit). old ++ front_within room l) (sym e),
-      subst (λ (l : List units.Unit). length (front_within room l) < length l) (sym e) few,
-    )
-
-pub fronted_more : (old new first second : List units.Unit) (room : ℕ) → Fronted old room first new None → Fronted old room (first ++ second) new None
-fronted_more old new first second room a = λ rest.
-    let e : (first ++ second) ++ rest ≡ first ++ (second ++ rest) = append_assoc first second rest in (
-      (a (second ++ rest)).0 ∙ ap (λ (l : List units.Unit). old ++ front_within room l) (sym e),
-      subst (λ (l : List units.Unit). length (front_within room l) < length l) (sym e) ((a (second ++ rest)).1),
-    )
-
-fronted_same : (old first second new : List units.Unit) (room : ℕ) (o : Option ℕ) → first ≡ second → Fronted old room first new o → Fronted old room second new o
-fronted_same old first second new room o e a = subst (λ (l : List units.Unit). Fronted old room l new o) e a
-
--- the same, for the room that is left as a call saw it
-pub fronted_at : (old new more : List units.Unit) (room : ℕ) (found left : Option ℕ) → found ≡ left → Fronted old room more new found → Fronted old room more new left
-fronted_at old new more room found left is a = subst (Fronted old room more new) is a
-
--- ---- the units that changes left
-
-prepend_append : (o : Option units.Unit) (first second : List units.Unit) → prepend o (first ++ second) ≡ prepend o first ++ second
-prepend_append None first second = refl
-prepend_append (Some unit) first second = refl
-
-pub left_append : (list : List units.Unit) (first second : List Change) → left_by list (first ++ second) ≡ left_by list first ++ left_by list second
-left_append list [] second = refl
-left_append list (change ∷ first) second = ap (prepend (unit_at change.key list)) (left_append list first second) ∙ prepend_append (unit_at change.key list) (left_by list first) (left_by list second)
-
--- the units of some changes, then those of others
-pub left_then : (list : List units.Unit) (first second : List Change) (old mid new : List units.Unit) (room left : ℕ) (o : Option ℕ) → Fronted old room (left_by list first) mid (Some left)
-    → Fronted mid left (left_by list second) new o → Fronted old room (left_by list (first ++ second)) new o
-left_then list first second old mid new room left o a b =
-    fronted_same old (left_by list first ++ left_by list second) (left_by list (first ++ second)) new room o (sym (left_append list first second)) (fronted_then old mid new (left_by list first) (left_by list second) room left o a b)
-
-pub left_more : (list : List units.Unit) (first second : List Change) (old new : List units.Unit) (room : ℕ) → Fronted old room (left_by list first) new None → Fronted old room (left_by list (first ++ second)) new None
-left_more list first second old new room a =
-    fronted_same old (left_by list first ++ left_by list second) (left_by list (first ++ second)) new room None (sym (left_append list first second)) (fronted_more old new (left_by list first) (left_by list second) room a)
-
--- ---- the loops
-
-pub changes_step : (list : List units.Unit) (changes : List Change) (at : ℕ) (change : Change) (old mid new : List units.Unit) (room left : ℕ) (o : Option ℕ) → change ≡ get_or changes at change → at < length changes
-    → Fronted old room (left_by list (take at changes)) mid (Some left) → Fronted mid left (left_by list (change ∷ [])) new o → Fronted old room (left_by list (take (at + 1) changes)) new o
-changes_step list changes at change old mid new room left o is lt a b =
-    let e : take (at + 1) changes ≡ take at changes ++ change ∷ [] = take_more changes at change lt ∙ ap (λ (c : Change). take at changes ++ c ∷ []) (sym is) in
-    fronted_same old (left_by list (take at changes ++ change ∷ [])) (left_by list (take (at + 1) changes)) new room o (ap (left_by list) (sym e)) (left_then list (take at changes) (change ∷ []) old mid new room left o a b)
-
-pub changes_end : (list : List units.Unit) (changes : List Change) (at : ℕ) (old new : List units.Unit) (room : ℕ) → Fronted old room (left_by list (take at changes)) new None → Fronted old room (left_by list changes) new None
-changes_end list changes at old new room a =
-    fronted_same old (left_by list (take at changes ++ drop at changes)) (left_by list changes) new room None (ap (left_by list) (take-append-drop at changes)) (left_more list (take at changes) (drop at changes) old new room a)
-
-pub pages_step : (list : List units.Unit) (pages : List (List Change)) (at : ℕ) (page seen : List Change) (old mid new : List units.Unit) (room left : ℕ) (o : Option ℕ) → page ≡ get_or pages at page → at < length pages → seen ≡ page
-    → Fronted old room (left_by list (joined (take at pages))) mid (Some left) → Fronted mid left (left_by list seen) new o → Fronted old room (left_by list (joined (take (at + 1) pages))) new o
-pages_step list pages at page seen old mid new room left o is lt same a b =
-    let e : take (at + 1) pages ≡ take at pages ++ page ∷ [] = take_more pages at page lt ∙ ap (λ (c : List Change). take at pages ++ c ∷ []) (sym is) in
-    let j : joined (take (at + 1) pages) ≡ joined (take at pages) ++ page = ap joined e ∙ joined_append (take at pages) (page ∷ []) ∙ ap (λ (l : List Change). joined (take at pages) ++ l) (append-nil page) in
-    fronted_same old (left_by list (joined (take at pages) ++ seen)) (left_by list (joined (take (at + 1) pages))) new room o
-    (ap (left_by list) (ap (λ (l : List Change). joined (take at pages) ++ l) same ∙ sym j)) (left_then list (joined (take at pages)) seen old mid new room left o a b)
-
-pub pages_end : (list : List units.Unit) (pages : List (List Change)) (at : ℕ) (old new : List units.Unit) (room : ℕ) → Fronted old room (left_by list (joined (take at pages))) new None → Fronted old room (left_by list (joined pages)) new None
-pages_end list pages at old new room a =
-    let j : joined (take at pages) ++ joined (drop at pages) ≡ joined pages = sym (joined_append (take at pages) (drop at pages)) ∙ ap joined (take-append-drop at pages) in
-    fronted_same old (left_by list (joined (take at pages) ++ joined (drop at pages))) (left_by list (joined pages)) new room None (ap (left_by list) j) (left_more list (joined (take at pages)) (joined (drop at pages)) old new room a)
-
--- ---- the whole
 
 less_test : (m n : ℕ) → m < n → (m == n) ≡ false
 less_test m n less = grind (arith, nat_tests)
@@ -106,19 +28,50 @@ less_test m n less = grind (arith, nat_tests)
 same_test : (m n : ℕ) → m ≡ n → (m == n) ≡ true
 same_test m n same = grind (arith, nat_tests)
 
-pub front_of_all : (room : ℕ) (all front start : List units.Unit) (left : Option ℕ) (whole : Bool) → start ≡ [] → whole ≡ is_some left → Fronted start room all front left → IsFront room all front whole
-front_of_all room all front start None whole empty says a =
-    let b : Fronted [] room all front None = subst (λ (l : List units.Unit). Fronted l room all front None) empty a in
-    let e : all ++ [] ≡ all = append-nil all in
-    let f : front ≡ front_within room all = (b []).0 ∙ ap (front_within room) e in
-    let few : length (front_within room all) < length all = subst (λ (l : List units.Unit). length (front_within room l) < length l) e ((b []).1) in
-    let n : length front ≡ length (front_within room all) = ap length f in
-    record { front_is = f; whole_is = says ∙ sym (less_test (length front) (length all) (omega (arith, n, few))) }
-front_of_all room all front start (Some left) whole empty says a =
-    let b : Fronted [] room all front (Some left) = subst (λ (l : List units.Unit). Fronted l room all front (Some left)) empty a in
-    let e : all ++ [] ≡ all = append-nil all in
-    let f : front ≡ front_within room all = sym (append-nil front) ∙ b.1 [] ∙ ap (front_within room) e in
-    record { front_is = f; whole_is = says ∙ sym (same_test (length front) (length all) (ap length b.0)) }
+-- Some of the units are in the front, and the rest is to come: what the front and the rest give is what all of them give.
+pub record IsBegun (room : ℕ) (all : List units.Unit) (left : ℕ) (front rest : List units.Unit) : Type 0 where
+  pub gives : front ++ front_within left rest ≡ front_within room all
+  pub counts : length front + length rest ≡ length all
+
+-- the front goes on with the rest, or it ends where there is too little room
+abbrev pub GoesOn : ℕ → List units.Unit → List units.Unit → List units.Unit × Option ℕ → Type 0
+GoesOn room all rest (front, Some left) = IsBegun room all left front rest
+GoesOn room all rest (front, None) = IsFront room all front false
+
+goes_one : (room : ℕ) (all front rest : List units.Unit) (unit : units.Unit) (left : ℕ) (b : Bool) → front ++ cond b (unit ∷ front_within left rest) [] ≡ front_within room all
+    → length front + suc (length rest) ≡ length all → GoesOn room all rest (cond {A = List units.Unit × Option ℕ} b (front ++ unit ∷ [], Some left) (front, None))
+goes_one room all front rest unit left true gives counts =
+    let more : length (front ++ unit ∷ []) ≡ length front + 1 = length-append front (unit ∷ []) in
+    record { gives = append_assoc front (unit ∷ []) (front_within left rest) ∙ gives; counts = omega (arith, more, counts) }
+goes_one room all front rest unit left false gives counts =
+    record { front_is = sym (append-nil front) ∙ gives; whole_is = sym (less_test (length front) (length all) (omega (arith, counts))) }
+
+goes_on : (room : ℕ) (all front rest : List units.Unit) (found : Option units.Unit) (left : ℕ) → IsBegun room all left front (prepend found rest) → GoesOn room all rest (added found left front)
+goes_on room all front rest None left begun = begun
+goes_on room all front rest (Some unit) left begun = goes_one room all front rest unit (left - form_size unit) (nat_le (form_size unit) left) begun.gives begun.counts
+
+-- the units that the changes from a place on left
+abbrev pub left_from : List units.Unit → List Change → ℕ → List units.Unit
+left_from list changes at = left_by list (drop at changes)
+
+-- a change more
+pub change_more : (list : List units.Unit) (changes : List Change) (room left at next : ℕ) (all front new : List units.Unit) (change : Change) (found seen : Option ℕ) → slice_get changes at ≡ Some change → next ≡ at + 1
+    → added (unit_at change.key list) left front ≡ (new, found) → found ≡ seen → IsBegun room all left front (left_from list changes at) → GoesOn room all (left_from list changes next) (new, seen)
+change_more list changes room left at next all front new change found seen there behind is same begun =
+    let rest : List units.Unit = left_from list changes next in
+    let last : drop at changes ≡ change ∷ drop (at + 1) changes =
+    drop_more changes at change (slice_get_within changes at change there) ∙ ap (λ one. one ∷ drop (at + 1) changes) (get_or_from_slice_get changes at change change there) in
+    let more : left_from list changes at ≡ prepend (unit_at change.key list) rest =
+    ap (left_by list) last ∙ ap (λ (place : ℕ). prepend (unit_at change.key list) (left_from list changes place)) (sym behind) in
+    subst (GoesOn room all rest) (is ∙ ap (λ (some : Option ℕ). (new, some)) same) (goes_on room all front rest (unit_at change.key list) left (subst (IsBegun room all left front) more begun))
+
+-- no change more
+pub changes_end : (list : List units.Unit) (changes : List Change) (room left at : ℕ) (all front : List units.Unit) → slice_get changes at ≡ None → IsBegun room all left front (left_from list changes at) → IsFront room all front true
+changes_end list changes room left at all front none begun =
+    let last : left_from list changes at ≡ [] = ap (left_by list) (drop_all at changes (over_end changes at none)) in
+    let ends : IsBegun room all left front [] = subst (IsBegun room all left front) last begun in
+    let counts : length front + 0 ≡ length all = ends.counts in
+    record { front_is = sym (append-nil front) ∙ ends.gives; whole_is = sym (same_test (length front) (length all) (omega (arith, counts))) }
 
 -- ---- the units that the changes above a number left are those that are newer
 
@@ -186,8 +139,8 @@ filter_changes : (usn : ℕ) (list : List units.Unit) → filter (is_later usn) 
 filter_changes usn [] = refl
 filter_changes usn (unit ∷ list) = filter_one usn unit list (nat_lt usn unit.usn) (filter_changes usn list)
 
-pub newer_left : (usn : ℕ) (list : List units.Unit) (changes rest : List Change) (top at : ℕ) → IsKept list changes top → IsCut (λ change. not (nat_lt usn change.usn)) changes at → rest ≡ drop at changes → left_by list rest ≡ newer usn list
-newer_left usn list changes rest top at kept cut is =
+pub newer_left : (usn : ℕ) (list : List units.Unit) (changes : List Change) (top at : ℕ) → IsKept list changes top → IsCut (λ change. not (nat_lt usn change.usn)) changes at → left_from list changes at ≡ newer usn list
+newer_left usn list changes top at kept cut =
     let rising : Rising changes = rising_kept list changes top kept in
     let place : at ≡ position_or_len (is_later usn) changes = cut_place change_order (is_later usn) (after_rises usn) changes at rising cut in
     let behind : drop at changes ≡ map change_of (newer usn list) =
@@ -195,4 +148,4 @@ newer_left usn list changes rest top at kept cut is =
     let kept_units : List units.Unit = filter (is_newer usn) list in
     let found : AllByRecursion (IsFoundIn list) (newer usn list) =
     all_permuted (IsFoundIn list) kept_units (by_number kept_units) (sorted_permutes kept_units) (all_filter (IsFoundIn list) (is_newer usn) list (self_all list kept.ordered)) in
-    ap (left_by list) (is ∙ behind) ∙ left_sorted list (newer usn list) found
+    ap (left_by list) behind ∙ left_sorted list (newer usn list) found

@@ -91,10 +91,14 @@ found_passes test (next ∷ rest) one is =
 pub take_next : {X : Type 0} (list : List X) (at : ℕ) (one : X) → slice_get list at ≡ Some one → take (at + 1) list ≡ take at list ++ one ∷ []
 take_next list at one is = take_more list at one (slice_get_within list at one is) ∙ ap (λ other. take at list ++ other ∷ []) (get_or_from_slice_get list at one one is)
 
+-- where no element is, the list has ended
+pub over_end : {X : Type 0} (list : List X) (at : ℕ) → slice_get list at ≡ None → length list ≤ at
+over_end list at is = ⊎_elim (λ there. absurd (none-some there.0 (sym is ∙ there.2))) (λ none. none.0) (slice_get_cases list at).1
+
 -- behind the end a front is the whole list
 pub take_over : {X : Type 0} (list : List X) (at most : ℕ) → slice_get list at ≡ None → at ≤ most → take at list ≡ take most list
 take_over list at most is le =
-    let over : length list ≤ at = ⊎_elim (λ there. absurd (none-some there.0 (sym is ∙ there.2))) (λ none. none.0) (slice_get_cases list at).1 in
+    let over : length list ≤ at = over_end list at is in
     take_all at list over ∙ sym (take_all most list (omega arith))
 
 pub sorted_take : {X : Type 0} (order : X → X → Ordering) (count : ℕ) (list : List X) → IsStrictlySortedBy order list → IsStrictlySortedBy order (take count list)

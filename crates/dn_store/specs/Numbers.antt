@@ -4,7 +4,7 @@ use Rattle.std.specs.List.{AllByRecursion}
 use Rattle.std.specs.List.Sorted.{IsStrictlySortedBy}
 use Rattle.std.specs.Ordering.{nat_cmp}
 use Rattle.std.specs.declared.cmp.Ordering.{Ordering}
-use Rattle.dn_pages.specs.Pages.{joined}
+use Rattle.dn_pages.specs.Pages.{items}
 use Rattle.dn_store.specs.declared.unit.Unit as units
 use Rattle.dn_store.specs.declared.unit.Change.{Change}
 use Rattle.dn_store.specs.Table.{Differ, IsNumber, IsTable, KeysGrow, by_number}
@@ -43,6 +43,6 @@ pub record IsKept (list : List units.Unit) (changes : List Change) (top : ℕ) :
   pub indexed : changes ≡ map change_of (by_number list)
 
 -- a table in pages: its units, and beside them the changes that left them, in the order of their numbers
-pub record IsPaged (pages : List (List units.Unit)) (changes : List (List Change)) (top : ℕ) : Type 0 where
-  pub table : IsTable (joined pages) top
-  pub indexed : joined changes ≡ map change_of (by_number (joined pages))
+pub record IsPaged (pages : List (List (List units.Unit))) (changes : List (List (List Change))) (top : ℕ) : Type 0 where
+  pub table : IsTable (items pages) top
+  pub indexed : items changes ≡ map change_of (by_number (items pages))

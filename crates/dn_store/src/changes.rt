@@ -1,8 +1,8 @@
-ghost use Rattle.std.specs.Prelude.{◌≡◌, ◌-◌, ◌≤◌, ◌∷◌, ◌++◌, [], nat_le, if◌then◌else◌, Some, None, IfOk};
-ghost use Rattle.dn_pages.specs.Pages.{joined};
-ghost use Rattle.dn_store.specs.Fronts.{Fronted, IsFront, left_by};
+ghost use Rattle.std.specs.Prelude.{◌≡◌, ◌-◌, ◌≤◌, drop, nat_le, if◌then◌else◌, Some, None, IfOk};
+ghost use Rattle.dn_pages.specs.Pages.{IsSettled, items, rank};
+ghost use Rattle.dn_store.specs.Fronts.{IsFront, added, left_by};
 ghost use Rattle.dn_store.specs.Numbers.{IsKept};
-ghost use Rattle.dn_store.specs.Table.{KeysGrow, form_size, key_size, last_number, newer, run_after};
+ghost use Rattle.dn_store.specs.Table.{KeysGrow, form_size, key_size, last_number, newer, run_after, unit_at};
 
 use crate::finding::find_key;
 use crate::held::Held;
@@ -10,7 +10,7 @@ use crate::marks::After;
 use crate::unit::Change;
 use crate::{ChangeRun, Unit, UnitKey, value_len};
 use dn_io::{Duplicate, List, OutOfMemory};
-use dn_pages::{Pages, Shared};
+use dn_pages::{Pages, Place};
 use std::alloc::Global;
 
 // The bytes of a stamp in a packet.
@@ -42,7 +42,7 @@ fn add_unit(
     room: usize,
     front: &mut List<Unit>,
 ) -> Result<Option<usize>, OutOfMemory>
-    ensures { IfOk result (λ left. Fronted front.old room (unit.now ∷ []) front.new left) }
+    ensures { IfOk result (λ left. added (Some unit.now) room front.old ≡ (front.new, left)) }
 {
     match room_after(room, unit) {
         None => Ok(None),
@@ -61,83 +61,12 @@ fn add_change(
     room: usize,
     front: &mut List<Unit>,
 ) -> Result<Option<usize>, OutOfMemory>
-    requires { KeysGrow (joined units.now) }
-    ensures { IfOk result (λ left. Fronted front.old room (left_by (joined units.now) (change.now ∷ [])) front.new left) }
+    requires { KeysGrow (items units.now) }
+    ensures { IfOk result (λ left. added (unit_at change.now.key (items units.now)) room front.old ≡ (front.new, left)) }
 {
     match find_key(units, &change.key) {
         None => Ok(Some(room)),
         Some(unit) => add_unit(alloc, unit, room, front),
-    }
-}
-
-// Adds copies of the units that changes left, as far as there is room.
-fn add_changes(
-    alloc: Global,
-    units: &Pages<Held>,
-    changes: &[Change],
-    room: usize,
-    front: &mut List<Unit>,
-) -> Result<Option<usize>, OutOfMemory>
-    requires { KeysGrow (joined units.now) }
-    ensures { IfOk result (λ left. Fronted front.old room (left_by (joined units.now) changes.now) front.new left) }
-{
-    let mut left = room;
-    for change in changes {
-        match add_change(alloc, units, change, left, front)? {
-            None => {
-                return Ok(None);
-            }
-            Some(rest) => {
-                left = rest;
-            }
-        }
-    }
-    Ok(Some(left))
-}
-
-// The same for the changes of pages.
-fn add_pages(
-    alloc: Global,
-    units: &Pages<Held>,
-    pages: &[Shared<Change>],
-    room: usize,
-    front: &mut List<Unit>,
-) -> Result<Option<usize>, OutOfMemory>
-    requires { KeysGrow (joined units.now) }
-    ensures { IfOk result (λ left. Fronted front.old room (left_by (joined units.now) (joined pages.now)) front.new left) }
-{
-    let mut left = room;
-    for page in pages {
-        match add_changes(alloc, units, page.as_slice(), left, front)? {
-            None => {
-                return Ok(None);
-            }
-            Some(rest) => {
-                left = rest;
-            }
-        }
-    }
-    Ok(Some(left))
-}
-
-// The same for changes and those of the pages behind them.
-fn add_all(
-    alloc: Global,
-    units: &Pages<Held>,
-    changes: &[Change],
-    pages: &[Shared<Change>],
-    room: usize,
-    front: &mut List<Unit>,
-) -> Result<Option<usize>, OutOfMemory>
-    requires { KeysGrow (joined units.now) }
-    ensures { IfOk result (λ left. Fronted front.old room (left_by (joined units.now) (changes.now ++ joined pages.now)) front.new left) }
-{
-    match add_changes(alloc, units, changes, room, front)? {
-        None => Ok(None),
-        Some(left) => {
-            let rest = add_pages(alloc, units, pages, left, front)?;
-            Ok(rest)
-        }
     }
 }
 
@@ -148,22 +77,38 @@ struct Front {
     whole: bool,
 }
 
-// The units that changes left, as far as there is room.
+// The units that the changes from a place on left, as far as there is room.
 fn front_of(
     alloc: Global,
     units: &Pages<Held>,
-    changes: &[Change],
-    pages: &[Shared<Change>],
+    changes: &Pages<Change>,
+    start: Place,
     room: usize,
 ) -> Result<Front, OutOfMemory>
-    requires { KeysGrow (joined units.now) }
-    ensures { IfOk result (λ front. IsFront room (left_by (joined units.now) (changes.now ++ joined pages.now)) front.units front.whole) }
+    requires keys { KeysGrow (items units.now) }
+    requires settled { IsSettled changes.now start }
+    ensures { IfOk result (λ front. IsFront room (left_by (items units.now) (drop (rank changes.now start) (items changes.now))) front.units front.whole) }
 {
     let mut found = List::new(alloc);
-    let left = add_all(alloc, units, changes, pages, room, &mut found)?;
+    let mut left = room;
+    let mut place = start;
+    while let Some(change) = changes.item_at(place) {
+        match add_change(alloc, units, change, left, &mut found)? {
+            None => {
+                return Ok(Front {
+                    units: found,
+                    whole: false,
+                });
+            }
+            Some(rest) => {
+                left = rest;
+            }
+        }
+        place = changes.next(place);
+    }
     Ok(Front {
         units: found,
-        whole: left.is_some(),
+        whole: true,
     })
 }
 
@@ -176,12 +121,11 @@ fn newer_front(
     room: usize,
     top: u64,
 ) -> Result<Front, OutOfMemory>
-    requires { IsKept (joined units.now) (joined changes.now) top }
-    ensures { IfOk result (λ front. IsFront room (newer usn (joined units.now)) front.units front.whole) }
+    requires { IsKept (items units.now) (items changes.now) top }
+    ensures { IfOk result (λ front. IsFront room (newer usn (items units.now)) front.units front.whole) }
 {
-    let place = changes.place_of(&After { usn });
-    let (first, behind) = changes.rest_from(place);
-    front_of(alloc, units, first, behind, room)
+    let start = changes.place_of(&After { usn });
+    front_of(alloc, units, changes, start, room)
 }
 
 // The number of the last unit, `none` where there is none.
@@ -211,8 +155,8 @@ pub fn run_of(
     units: &Pages<Held>,
     changes: &Pages<Change>,
 ) -> Result<ChangeRun, OutOfMemory>
-    requires { IsKept (joined units.now) (joined changes.now) top }
-    ensures { IfOk result (λ run. run ≡ run_after usn room top (joined units.now)) }
+    requires { IsKept (items units.now) (items changes.now) top }
+    ensures { IfOk result (λ run. run ≡ run_after usn room top (items units.now)) }
 {
     let front = newer_front(alloc, units, changes, usn, room, top)?;
     let to = end_of(front.whole, top, usn, front.units.as_slice());

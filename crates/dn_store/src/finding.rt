@@ -1,5 +1,5 @@
 ghost use Rattle.std.specs.Prelude.{◌≡◌, Some, option_copied, option_map};
-ghost use Rattle.dn_pages.specs.Pages.{joined};
+ghost use Rattle.dn_pages.specs.Pages.{items};
 ghost use Rattle.dn_store.specs.Places.{picked};
 ghost use Rattle.dn_store.specs.Table.{KeysGrow, unit_above, unit_at};
 
@@ -37,8 +37,8 @@ pub fn number_with(held: Option<&Held>, key: &UnitKey) -> Option<u64>
 
 // The unit of a key.
 pub fn find_key<'a>(units: &'a Pages<Held>, key: &UnitKey) -> Option<&'a Unit>
-    requires { KeysGrow (joined units.now) }
-    ensures { option_copied result ≡ unit_at key.now (joined units.now) }
+    requires { KeysGrow (items units.now) }
+    ensures { option_copied result ≡ unit_at key.now (items units.now) }
 {
     let place = units.place_of(key);
     unit_with(units.item_at(place), key)
@@ -46,8 +46,8 @@ pub fn find_key<'a>(units: &'a Pages<Held>, key: &UnitKey) -> Option<&'a Unit>
 
 // The first unit whose key is above the key.
 fn find_past<'a>(units: &'a Pages<Held>, key: &UnitKey) -> Option<&'a Unit>
-    requires { KeysGrow (joined units.now) }
-    ensures { option_copied result ≡ unit_above (Some key.now) (joined units.now) }
+    requires { KeysGrow (items units.now) }
+    ensures { option_copied result ≡ unit_above (Some key.now) (items units.now) }
 {
     let key = *key;
     let place = units.place_of(&Past { key });
@@ -56,8 +56,8 @@ fn find_past<'a>(units: &'a Pages<Held>, key: &UnitKey) -> Option<&'a Unit>
 
 // The first unit whose key is above the key, the first of all where no key is given.
 pub fn find_above<'a>(units: &'a Pages<Held>, key: Option<&UnitKey>) -> Option<&'a Unit>
-    requires { KeysGrow (joined units.now) }
-    ensures { option_copied result ≡ unit_above (option_copied key.entry) (joined units.now) }
+    requires { KeysGrow (items units.now) }
+    ensures { option_copied result ≡ unit_above (option_copied key.entry) (items units.now) }
 {
     match key {
         None => unit_of(units.first()),

@@ -1,5 +1,5 @@
 ghost use Rattle.std.specs.Prelude.{◌≡◌, ◌++◌, ◌∷◌, [], IfOk, option_copied};
-ghost use Rattle.dn_pages.specs.Pages.{joined};
+ghost use Rattle.dn_pages.specs.Pages.{items};
 ghost use Rattle.dn_store.specs.Numbers.{Rising, has_number, without, without_at};
 
 use crate::marks::From;
@@ -18,8 +18,8 @@ fn is_numbered(change: Option<&Change>, usn: u64) -> bool
 
 // The changes without that of a number.
 fn forget(changes: Draft<Change>, usn: u64) -> Result<Draft<Change>, OutOfMemory>
-    requires { Rising (joined changes) }
-    ensures { IfOk result (λ rest. joined rest ≡ without usn (joined changes)) }
+    requires { Rising (items changes) }
+    ensures { IfOk result (λ rest. items rest ≡ without usn (items changes)) }
 {
     let place = changes.place_of(&From { usn });
     if is_numbered(changes.item_at(place), usn) {
@@ -44,8 +44,8 @@ pub fn renumber(
     usn: u64,
     key: &UnitKey,
 ) -> Result<Draft<Change>, OutOfMemory>
-    requires { Rising (joined changes) }
-    ensures { IfOk result (λ later. joined later ≡ without_at old (joined changes) ++ record { usn = usn; key = key.now } ∷ []) }
+    requires { Rising (items changes) }
+    ensures { IfOk result (λ later. items later ≡ without_at old (items changes) ++ record { usn = usn; key = key.now } ∷ []) }
 {
     match old {
         None => changes.push(change_at(usn, key)),

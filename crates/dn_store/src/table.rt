@@ -37,10 +37,10 @@ impl Model for Table {
 
     ghost Value = { Seq one.Unit × ℕ };
 
-    ghost use Rattle.dn_pages.specs.Pages.{joined};
+    ghost use Rattle.dn_pages.specs.Pages.{items};
     ghost use Rattle.dn_store.specs.Numbers.{IsPaged};
 
-    ghost view = { λ table. (joined table.units, table.top) };
+    ghost view = { λ table. (items table.units, table.top) };
 
     ghost invariant = { λ table. IsPaged table.units table.changes table.top };
 }

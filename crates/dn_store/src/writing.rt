@@ -1,6 +1,5 @@
 ghost use Rattle.std.specs.Prelude.{◌≡◌, ◌+◌, ◌≤◌, IfOk, is_some, length, slice_get};
-ghost use Rattle.dn_pages.specs.Pages.{IsInside, joined, rank};
-ghost use Rattle.dn_pages.specs.Search.{IsSettled};
+ghost use Rattle.dn_pages.specs.Pages.{IsInside, IsSettled, items, rank};
 ghost use Rattle.dn_store.specs.Numbers.{IsKept};
 ghost use Rattle.dn_store.specs.Places.{picked, place_among};
 ghost use Rattle.dn_store.specs.Table.{change_limit, numbered, placed, taken};
@@ -28,11 +27,11 @@ fn put_at(
     replaces: bool,
     unit: Unit,
 ) -> Result<Draft<Held>, OutOfMemory>
-    requires at { rank units place ≡ place_among unit.key (joined units) }
+    requires at { rank units place ≡ place_among unit.key (items units) }
     requires inside { IsInside units place }
     requires settled { IsSettled units place }
-    requires there { replaces ≡ is_some (picked unit.key (slice_get (joined units) (rank units place))) }
-    ensures { IfOk result (λ later. joined later ≡ placed unit (joined units)) }
+    requires there { replaces ≡ is_some (picked unit.key (slice_get (items units) (rank units place))) }
+    ensures { IfOk result (λ later. items later ≡ placed unit (items units)) }
 {
     let held = Held::of(alloc, unit)?;
     if replaces {
@@ -45,9 +44,9 @@ fn put_at(
 // Puts a unit into its place, and its change behind all others.
 fn take_unit(alloc: Global, drafts: Drafts, unit: Unit, top: u64) -> Result<Drafts, OutOfMemory>
     requires next { unit.usn ≡ top + 1 }
-    requires kept { IsKept (joined drafts.units) (joined drafts.changes) top }
-    ensures placed { IfOk result (λ later. joined later.units ≡ placed unit (joined drafts.units)) }
-    ensures kept { IfOk result (λ later. IsKept (joined later.units) (joined later.changes) (top + 1)) }
+    requires kept { IsKept (items drafts.units) (items drafts.changes) top }
+    ensures placed { IfOk result (λ later. items later.units ≡ placed unit (items drafts.units)) }
+    ensures kept { IfOk result (λ later. IsKept (items later.units) (items later.changes) (top + 1)) }
 {
     let Drafts { units, changes } = drafts;
     let place = units.place_of(&unit.key);
@@ -78,9 +77,9 @@ pub fn take_writes(
     batch: &[Write],
 ) -> Result<Drafts, OutOfMemory>
     requires most { top + length batch.now ≤ change_limit }
-    requires kept { IsKept (joined start.units) (joined start.changes) top }
-    ensures taken { IfOk result (λ later. joined later.units ≡ taken (joined start.units) top batch.now) }
-    ensures kept { IfOk result (λ later. IsKept (joined later.units) (joined later.changes) (top + length batch.now)) }
+    requires kept { IsKept (items start.units) (items start.changes) top }
+    ensures taken { IfOk result (λ later. items later.units ≡ taken (items start.units) top batch.now) }
+    ensures kept { IfOk result (λ later. IsKept (items later.units) (items later.changes) (top + length batch.now)) }
 {
     let mut drafts = start;
     let mut number = top;

@@ -9,6 +9,6 @@ pub returns-clause-joined : goal.returns-clause-joined
 returns-clause-joined g c =
     on_ok_weaker c.insert.result
     (λ made.
-    inserted c.args.row.now.items _ c.args.place c.insert.new.self c.args.item c.requires.within c.requires.inside
-    (made ∙ ap (λ list. insert list c.args.place.at c.args.item) (get_or_read c.args.row.now.items c.args.place.page c.index_mut.result.now c.requires.within c.index_mut.ensures.value [])) refl)
+    inserted c.args.row.now.items _ c.args.spot c.insert.new.self c.args.item c.requires.within c.requires.inside
+    (made ∙ ap (λ list. insert list c.args.spot.at c.args.item) (get_or_read c.args.row.now.items c.args.spot.page c.index_mut.result.now c.requires.within c.index_mut.ensures.value [])) refl)
     c.insert.ensures

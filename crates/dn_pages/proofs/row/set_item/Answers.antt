@@ -6,9 +6,9 @@ use Rattle.dn_pages.proofs.row.set_item.Goals as goal
 
 pub returns-clause-joined : goal.returns-clause-joined
 returns-clause-joined g c =
-    let within : c.args.place.page < length c.args.row.now.items = there_within c.args.row.now.items c.args.place.page c.args.place.at c.requires.there in
+    let within : c.args.spot.page < length c.args.row.now.items = there_within c.args.row.now.items c.args.spot.page c.args.spot.at c.requires.there in
     on_ok_weaker c.set.result
     (λ made.
-    put c.args.row.now.items _ c.args.place c.set.new.self c.args.item within c.requires.there
-    (made ∙ ap (λ list. set list c.args.place.at c.args.item) (get_or_read c.args.row.now.items c.args.place.page c.index_mut.result.now within c.index_mut.ensures.value [])) refl)
+    put c.args.row.now.items _ c.args.spot c.set.new.self c.args.item within c.requires.there
+    (made ∙ ap (λ list. set list c.args.spot.at c.args.item) (get_or_read c.args.row.now.items c.args.spot.page c.index_mut.result.now within c.index_mut.ensures.value [])) refl)
     c.set.ensures

@@ -1,5 +1,5 @@
 use Rattle.std.proofs.Common.{◌≡◌, ◌+◌, drop}
-use Rattle.dn_pages.specs.Pages.{joined}
+use Rattle.dn_pages.specs.Pages.{items}
 use Rattle.dn_store.specs.Numbers.{IsKept}
 use Rattle.dn_store.specs.Table.{taken}
 use Rattle.dn_store.proofs.writing.take_writes.Given as goal
@@ -7,6 +7,6 @@ use Rattle.dn_store.proofs.writing.take_writes.Given as goal
 abbrev pub invariant-loop-write : goal.invariant-loop-write
 invariant-loop-write l = record {
   counted : l.number ≡ l.top + l.write-index;
-  rest : taken (joined l.drafts.units) l.number (drop l.write-index l.batch) ≡ taken (joined l.initial.drafts.units) l.top l.batch;
-  kept : IsKept (joined l.drafts.units) (joined l.drafts.changes) l.number;
+  rest : taken (items l.drafts.units) l.number (drop l.write-index l.batch) ≡ taken (items l.initial.drafts.units) l.top l.batch;
+  kept : IsKept (items l.drafts.units) (items l.drafts.changes) l.number;
 }

@@ -1,7 +1,7 @@
 use Rattle.std.proofs.Common.{map, refl, subst}
 use Rattle.std.specs.Prelude.{IsTrue}
 use Rattle.std.specs.List.{AllByRecursion}
-use Rattle.dn_pages.specs.Pages.{joined}
+use Rattle.dn_pages.specs.Pages.{items}
 use Rattle.dn_store.specs.Run.{IsRun}
 use Rattle.dn_store.specs.Table.{KeysDiffer, TableState, run_after, write_of}
 use Rattle.dn_store.specs.Value.{fits}
@@ -10,17 +10,17 @@ use Rattle.dn_store.proofs.table.Table.changes_after.Goals as goal
 
 pub returns-clause-longest : goal.returns-clause-longest
 returns-clause-longest c =
-    run_seen (IsRun c.args.usn c.args.room c.args.self.now.1 c.args.self.now.0) c.args.usn c.args.room c.self.inside.top (joined c.self.inside.units) (joined c.self.inside.units) c.run_of.result
+    run_seen (IsRun c.args.usn c.args.room c.args.self.now.1 c.args.self.now.0) c.args.usn c.args.room c.self.inside.top (items c.self.inside.units) (items c.self.inside.units) c.run_of.result
     c.run_of.ensures refl
-    (subst (λ (table : TableState). IsRun c.args.usn c.args.room table.1 table.0 (run_after c.args.usn c.args.room c.self.inside.top (joined c.self.inside.units))) c.self.view_is
-    (run_is c.args.usn c.args.room c.self.inside.top (joined c.self.inside.units) c.self.invariant.table.differ))
+    (subst (λ (table : TableState). IsRun c.args.usn c.args.room table.1 table.0 (run_after c.args.usn c.args.room c.self.inside.top (items c.self.inside.units))) c.self.view_is
+    (run_is c.args.usn c.args.room c.self.inside.top (items c.self.inside.units) c.self.invariant.table.differ))
 
 pub returns-clause-differ : goal.returns-clause-differ
 returns-clause-differ c =
-    run_seen (λ run. KeysDiffer (map write_of run.units)) c.args.usn c.args.room c.self.inside.top (joined c.self.inside.units) (joined c.self.inside.units) c.run_of.result
-    c.run_of.ensures refl (run_differ c.args.usn c.args.room c.self.inside.top (joined c.self.inside.units) c.self.invariant.table.ordered)
+    run_seen (λ run. KeysDiffer (map write_of run.units)) c.args.usn c.args.room c.self.inside.top (items c.self.inside.units) (items c.self.inside.units) c.run_of.result
+    c.run_of.ensures refl (run_differ c.args.usn c.args.room c.self.inside.top (items c.self.inside.units) c.self.invariant.table.ordered)
 
 pub returns-clause-fit : goal.returns-clause-fit
 returns-clause-fit c =
-    run_seen (λ run. AllByRecursion (λ write. IsTrue (fits write.value)) (map write_of run.units)) c.args.usn c.args.room c.self.inside.top (joined c.self.inside.units) (joined c.self.inside.units) c.run_of.result
-    c.run_of.ensures refl (run_fit c.args.usn c.args.room c.self.inside.top (joined c.self.inside.units) c.self.invariant.table.fitting)
+    run_seen (λ run. AllByRecursion (λ write. IsTrue (fits write.value)) (map write_of run.units)) c.args.usn c.args.room c.self.inside.top (items c.self.inside.units) (items c.self.inside.units) c.run_of.result
+    c.run_of.ensures refl (run_fit c.args.usn c.args.room c.self.inside.top (items c.self.inside.units) c.self.invariant.table.fitting)

@@ -1,7 +1,7 @@
 use Rattle.std.proofs.Common.{◌∙◌, []}
 use Rattle.std.proofs.lemmas.List.{get_or_read}
 use Rattle.dn_pages.proofs.CutLemmas.{cut_seen}
-use Rattle.dn_pages.proofs.search.place_in.Goals as goal
+use Rattle.dn_pages.proofs.search.spot_in.Goals as goal
 
 pub returns-clause-cut : goal.returns-clause-cut
 returns-clause-cut g c =
