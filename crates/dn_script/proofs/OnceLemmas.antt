@@ -12,7 +12,7 @@ use Rattle.dn_script.specs.declared.value.Stored.TheVariants as stored
 use Rattle.dn_script.specs.declared.value.Value.{Value}
 use Rattle.dn_script.specs.declared.value.Value.TheVariants as values
 use Rattle.dn_script.specs.Play.{Ending}
-use Rattle.dn_script.specs.Said.{Gives, IsSaid, IsSaidOnce}
+use Rattle.dn_script.specs.Said.{Gives, IsSaid, IsSaidOnce, by_itself}
 use Rattle.dn_script.specs.ValueLaws.{Laws}
 use Rattle.dn_script.specs.Values.{IsFault, IsPacked, IsShown, IsShownAs, IsValue, property_fault_text, record_fault_text, stored_of, stored_text, value_of, value_text}
 
@@ -28,25 +28,25 @@ same_output one other same = cc
 same_text : (one other more rest text another : List ℕ) → text ≡ one ++ more → another ≡ other ++ rest → one ≡ other → more ≡ rest → text ≡ another
 same_text one other more rest text another a b c d = a ∙ ap₂ (λ (x y : List ℕ). x ++ y) c d ∙ sym b
 
-said_once : (Line : Gives) → GivesOnce Line → (lines : List RawLine) (number at : ℕ) (text other : List ℕ) (ending another : Ending)
-    → IsSaid Line number at lines text ending → IsSaid Line number at lines other another → (text ≡ other) × (ending ≡ another)
-said_once Line once [] number at text other ending another (a, b) (c, d) = (a ∙ sym c, b ∙ sym d)
-said_once Line once (line ∷ rest) number at text other ending another (inl (long, a, b)) (inl (also, c, d)) = (a ∙ sym c, b ∙ sym d)
-said_once Line once (line ∷ rest) number at text other ending another (inl (long, a, b)) (inr (inl (fits, none, c, d))) = absurd (true≢false (sym long ∙ fits))
-said_once Line once (line ∷ rest) number at text other ending another (inl (long, a, b)) (inr (inr (fits, output, more, is, c, said))) = absurd (true≢false (sym long ∙ fits))
-said_once Line once (line ∷ rest) number at text other ending another (inr (inl (fits, none, a, b))) (inl (long, c, d)) = absurd (true≢false (sym long ∙ fits))
-said_once Line once (line ∷ rest) number at text other ending another (inr (inl (fits, none, a, b))) (inr (inl (also, nor, c, d))) = (a ∙ sym c, b ∙ sym d)
-said_once Line once (line ∷ rest) number at text other ending another (inr (inl (fits, none, a, b))) (inr (inr (also, output, more, is, c, said))) =
+said_once : (Line : Gives) → GivesOnce Line → (lines : List RawLine) (x y : Unit {0}) (number at : ℕ) (text other : List ℕ) (ending another : Ending)
+    → IsSaid (by_itself Line) x number at lines text ending → IsSaid (by_itself Line) y number at lines other another → (text ≡ other) × (ending ≡ another)
+said_once Line once [] x y number at text other ending another (a, b) (c, d) = (a ∙ sym c, b ∙ sym d)
+said_once Line once (line ∷ rest) x y number at text other ending another (inl (long, a, b)) (inl (also, c, d)) = (a ∙ sym c, b ∙ sym d)
+said_once Line once (line ∷ rest) x y number at text other ending another (inl (long, a, b)) (inr (inl (fits, none, c, d))) = absurd (true≢false (sym long ∙ fits))
+said_once Line once (line ∷ rest) x y number at text other ending another (inl (long, a, b)) (inr (inr (fits, after, output, more, is, c, said))) = absurd (true≢false (sym long ∙ fits))
+said_once Line once (line ∷ rest) x y number at text other ending another (inr (inl (fits, none, a, b))) (inl (long, c, d)) = absurd (true≢false (sym long ∙ fits))
+said_once Line once (line ∷ rest) x y number at text other ending another (inr (inl (fits, none, a, b))) (inr (inl (also, nor, c, d))) = (a ∙ sym c, b ∙ sym d)
+said_once Line once (line ∷ rest) x y number at text other ending another (inr (inl (fits, none, a, b))) (inr (inr (also, after, output, more, is, c, said))) =
     let same : None ≡ Some output = once (text_of line) None (Some output) none is in absurd (cc)
-said_once Line once (line ∷ rest) number at text other ending another (inr (inr (fits, output, more, is, a, said))) (inl (long, c, d)) = absurd (true≢false (sym long ∙ fits))
-said_once Line once (line ∷ rest) number at text other ending another (inr (inr (fits, output, more, is, a, said))) (inr (inl (also, none, c, d))) =
+said_once Line once (line ∷ rest) x y number at text other ending another (inr (inr (fits, after, output, more, is, a, said))) (inl (long, c, d)) = absurd (true≢false (sym long ∙ fits))
+said_once Line once (line ∷ rest) x y number at text other ending another (inr (inr (fits, after, output, more, is, a, said))) (inr (inl (also, none, c, d))) =
     let same : None ≡ Some output = once (text_of line) None (Some output) none is in absurd (cc)
-said_once Line once (line ∷ rest) number at text other ending another (inr (inr (fits, one, more, is, a, said))) (inr (inr (also, two, others, are, c, told))) =
-    let rests = said_once Line once rest (number + 1) (at + size_of line) more others ending another said told in
+said_once Line once (line ∷ rest) x y number at text other ending another (inr (inr (fits, after, one, more, is, a, said))) (inr (inr (also, later, two, others, are, c, told))) =
+    let rests = said_once Line once rest after later (number + 1) (at + size_of line) more others ending another said told in
     (same_text one two more others text other a c (same_output one two (once (text_of line) (Some one) (Some two) is are)) rests.0, rests.1)
 
 pub texts_once : (Line : Gives) → GivesOnce Line → IsSaidOnce Line
-texts_once Line once bytes text other ending another said told = said_once Line once (lines_of bytes) 1 0 text other ending another said told
+texts_once Line once bytes text other ending another said told = said_once Line once (lines_of bytes) tt tt 1 0 text other ending another said told
 
 -- ---- values
 

@@ -1,6 +1,6 @@
 -- A play is one run of its events.
-use Rattle.std.proofs.Common.{◌≡◌, ℕ, ◌+◌, Bool, true, false, cond, List, [], ◌∷◌, ◌++◌, Option, None, Some, refl, ap, sym, subst, ◌∙◌}
-use Rattle.std.specs.Prelude.{slice_get}
+use Rattle.std.proofs.Common.{◌≡◌, ℕ, ◌+◌, Bool, true, false, cond, List, [], ◌∷◌, ◌++◌, Option, None, Some, Result, Ok, Err, refl, ap, sym, subst, ◌∙◌}
+use Rattle.std.specs.Prelude.{OnOk, slice_get}
 use Rattle.dn_io.specs.Lines.{RawLine, is_overlong, lines_of, size_of, text_of}
 use Rattle.dn_io.specs.Options.{◌>>=◌}
 use Rattle.dn_word.specs.Words.{words_of}
@@ -13,11 +13,13 @@ use Rattle.dn_world.specs.Ask.{world_reply}
 use Rattle.dn_world.specs.Datagram.{reply_to, wants_more}
 use Rattle.dn_world.specs.Runs.{AreProper, IsValidWorld, run_from, wrun}
 use Rattle.dn_world.proofs.CallerLemmas.{run_keeps, run_then, run_valid, run_world}
+use Rattle.dn_script.specs.declared.bad.Bad.{Bad}
 use Rattle.dn_script.specs.declared.line.ScriptLine.{ScriptLine}
 use Rattle.dn_script.specs.declared.line.ScriptLine.TheVariants as lines
 use Rattle.dn_script.specs.declared.script.Script.{Script}
 use Rattle.dn_script.specs.Line.{line_of}
 use Rattle.dn_script.specs.Play.{Played, Step, after_event, after_step, at_moment, besides, events_of, events_or_none, line_events, opening, output_of, play, play_lines, replica_number, replied, run_events, run_line, sent_back, step_text, text_events, with_name}
+use Rattle.dn_script.specs.Play.Stepped.{Steps}
 use Rattle.dn_script.specs.Words.{does_nothing}
 use Rattle.dn_script.proofs.ProperLines.{text_proper}
 
@@ -93,6 +95,10 @@ opening_valid = run_valid [] tt
 pub text_valid : (script : Script) (text : List ℕ) (after : Script × List ℕ) → IsValidWorld script.world → step_text script text ≡ Some after → IsValidWorld after.0.world
 text_valid script text after valid is =
     subst IsValidWorld (sym (text_runs script text after is)) (run_keeps (script.world, Made) (text_events script text) valid (text_proper script text))
+
+pub step_valid : (script after : Script) (text : List ℕ) (result : Result (List ℕ) Bad) → IsValidWorld script.world → Steps result after (step_text script text) → OnOk result (IsValidWorld after.world)
+step_valid script after text (Ok output) valid is = text_valid script text (after, output) valid is
+step_valid script after text (Err why) valid is = tt
 
 -- ---- all lines
 

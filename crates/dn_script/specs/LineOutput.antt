@@ -1,5 +1,4 @@
 -- What a body tells of a line of `show` or `pack`: its output, or that it isn't valid.
-pub mod Turns
 use Rattle.std.specs.Prelude.{◌≡◌, ℕ, ◌+◌, ◌^◌, ◌<◌, ◌≤◌, ⊤, List, length, Option, None, Some, Result, Ok, Err}
 use Rattle.dn_rdata.specs.Layout.{IsData}
 use Rattle.dn_rdata.specs.Record.{stored_size}
@@ -9,15 +8,7 @@ use Rattle.dn_script.specs.declared.bad.Bad.TheVariants as bad
 use Rattle.dn_script.specs.declared.value.Stored.{Stored}
 use Rattle.dn_script.specs.declared.value.Value.{Value}
 use Rattle.dn_script.specs.declared.value.Value.TheVariants as values
-use Rattle.dn_script.specs.declared.value_lines.ValueCommand.{ValueCommand}
-use Rattle.dn_script.specs.declared.value_lines.ValueCommand.TheVariants as commands
-use Rattle.dn_script.specs.Said.{Gives}
-use Rattle.dn_script.specs.Values.{IsPacked, IsShown, IsShownAs, IsValue, stored_of, stored_text, value_of}
-
--- what lines give to a command
-abbrev pub gives : ValueCommand → Gives
-gives commands.Show = IsShown
-gives commands.Pack = IsPacked
+use Rattle.dn_script.specs.Values.{IsShownAs, IsValue, stored_of, stored_text, value_of}
 
 -- what was given is what there is to give, unless memory ran out
 abbrev pub Outputs : (Option (List ℕ) → Type 0) → Result (List ℕ) Bad → Type 0

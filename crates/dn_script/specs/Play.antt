@@ -1,6 +1,5 @@
 -- What a script does: the events of its lines, what it prints, and how it ends.
 pub mod Stepped
-pub mod Turns
 use Rattle.std.specs.Prelude.{◌≡◌, ℕ, ◌+◌, Bool, not, if◌then◌else◌, nat_eq, List, [], ◌∷◌, ◌++◌, position, slice_get, Option, None, Some}
 use Rattle.std.specs.List.{list_any}
 use Rattle.std.specs.Io.KnownBytes.{Appends}

@@ -6,7 +6,7 @@ mod bad;
 mod faults;
 mod laws;
 mod line;
-mod line_status;
+mod lines_run;
 mod names;
 mod packing;
 mod passes;

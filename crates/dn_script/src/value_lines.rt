@@ -1,150 +1,69 @@
 //! `show` and `pack`: each line of an input gives its output by itself.
 
-ghost use Rattle.std.specs.Prelude.{◌≡◌, ◌≢◌, ◌+◌, ◌≤◌, None, IfOk, IsErrOf};
+ghost use Rattle.std.specs.Prelude.{◌≡◌, ◌≢◌, ◌≤◌, ⊤};
 ghost use Rattle.dn_io.specs.Outside.{Rose, Told};
-ghost use Rattle.dn_script.specs.LineOutput.{Outputs, gives};
-ghost use Rattle.dn_script.specs.LineOutput.Turns.{EndedAhead, GivesText, Turns};
-ghost use Rattle.dn_script.specs.Play.Turns.{Advanced, last_status};
-ghost use Rattle.dn_script.specs.Said.{EndedLines};
+ghost use Rattle.dn_script.specs.Said.{EndedLines, by_itself};
 ghost use Rattle.dn_script.specs.Values.{IsPacked, IsShown};
 
 use crate::bad::Bad;
-use crate::line_status::status_of;
+use crate::lines_run::{LineCommand, run_lines};
 use crate::packing::packed_line;
 use crate::showing::shown_line;
 use crate::words::does_nothing;
-use dn_io::{Line, LineBuf, List, Sink, Source, Status, read_line, write_all};
+use dn_io::{List, Sink, Source, Status};
 use dn_word::words_of;
 use std::alloc::Global;
+use std::marker::Model;
 
-// What is done to each line.
-#[derive(Clone, Copy)]
-pub enum ValueCommand {
-    /// Bytes of stored values as text.
-    Show,
-    /// Text of stored values as bytes.
-    Pack,
+// The command `show`, which has no state.
+#[derive(Drop)]
+struct ShowLines;
+
+impl Model for ShowLines {
+    ghost Value = { Unit {0} };
+
+    ghost view = { λ _. tt };
 }
 
-// The output of a line by its text.
-//
-// # Errors
-// `Line` exactly where the line isn't valid, `Memory` where memory wasn't to be had.
-fn line_output(alloc: Global, command: ValueCommand, text: &[u8]) -> Result<List<u8>, Bad>
-    ensures { Outputs (gives command text.now) result }
-{
-    let Ok(words) = words_of(alloc, text) else {
-        return Err(Bad::Memory);
-    };
-    if does_nothing(text, &words) {
-        return Ok(List::new(alloc));
-    }
-    match command {
-        ValueCommand::Show => shown_line(alloc, &words),
-        ValueCommand::Pack => packed_line(alloc, text),
-    }
-}
+impl LineCommand for ShowLines {
+    ghost ready = { λ _. ⊤ };
 
-// Writes the output of the text of a line.
-fn run_text<K: Sink>(
-    alloc: Global,
-    command: ValueCommand,
-    number: u64,
-    text: &[u8],
-    sink: &mut K,
-) -> Result<(), Status>
-    ensures runs { GivesText result command number text.now (K.written sink.old) (K.written sink.new) }
-    ensures write { IsErrOf result Status.WriteFault → Rose (K.faults sink.old) (K.faults sink.new) }
-    ensures later { K.faults sink.old ≤ K.faults sink.new }
-{
-    match line_output(alloc, command, text) {
-        Ok(output) => match write_all(sink, output.as_slice()) {
-            Ok(()) => Ok(()),
-            Err(_) => Err(Status::WriteFault),
-        },
-        Err(Bad::Line) => Err(Status::BadLine(number)),
-        Err(Bad::Memory) => Err(Status::OutOfMemory),
-    }
-}
+    ghost gives = { by_itself IsShown };
 
-// Reads the next line and writes its output; `false` at the end of the input.
-fn turn<S: Source, K: Sink>(
-    alloc: Global,
-    command: ValueCommand,
-    number: u64,
-    source: &mut S,
-    lines: &mut LineBuf,
-    sink: &mut K,
-) -> Result<bool, Status>
-    requires kept { lines.old.kept ≡ None }
-    ensures turns { Told (S.left source.old) (S.left source.new) (λ before now.
-        Turns result command number lines.old before lines.new now (K.written sink.old) (K.written sink.new)) }
-    ensures advances { IfOk result (λ more. Advanced more lines.old lines.new) }
-    ensures read { IsErrOf result Status.ReadFault → Rose (S.faults source.old) (S.faults source.new) }
-    ensures write { IsErrOf result Status.WriteFault → Rose (K.faults sink.old) (K.faults sink.new) }
-    ensures reads { S.faults source.old ≤ S.faults source.new }
-    ensures writes { K.faults sink.old ≤ K.faults sink.new }
-    ensures usage { IsErrOf result Status.Usage → ⊥ }
-    ensures link { IsErrOf result Status.LinkFault → ⊥ }
-{
-    match read_line(alloc, source, lines) {
-        Ok(Line::Text(text)) => {
-            run_text(alloc, command, number, text.as_slice(), sink)?;
-            Ok(true)
+    fn output(&mut self, alloc: Global, text: &[u8]) -> Result<List<u8>, Bad> {
+        let Ok(words) = words_of(alloc, text) else {
+            return Err(Bad::Memory);
+        };
+        if does_nothing(text, &words) {
+            return Ok(List::new(alloc));
         }
-        Ok(Line::End) => Ok(false),
-        Err(error) => Err(status_of(error)),
+        shown_line(alloc, &words)
     }
 }
 
-// Does so with each line up to the end of the input.
-fn all_lines<S: Source, K: Sink>(
-    alloc: Global,
-    command: ValueCommand,
-    source: &mut S,
-    lines: &mut LineBuf,
-    sink: &mut K,
-) -> Result<(), Status>
-    requires kept { lines.old.kept ≡ None }
-    requires taken { lines.old.taken ≡ 0 }
-    ensures ended { Told (S.left source.old) (S.left source.new) (λ before now.
-        EndedAhead command 1 lines.old before (last_status result) now (K.written sink.old) (K.written sink.new)) }
-    ensures read { IsErrOf result Status.ReadFault → Rose (S.faults source.old) (S.faults source.new) }
-    ensures write { IsErrOf result Status.WriteFault → Rose (K.faults sink.old) (K.faults sink.new) }
-    ensures reads { S.faults source.old ≤ S.faults source.new }
-    ensures writes { K.faults sink.old ≤ K.faults sink.new }
-    ensures usage { IsErrOf result Status.Usage → ⊥ }
-    ensures link { IsErrOf result Status.LinkFault → ⊥ }
-{
-    let mut number = 1u64;
-    while turn(alloc, command, number, source, lines, sink)? {
-        number += 1;
-    }
-    Ok(())
+// The command `pack`, which has none either.
+#[derive(Drop)]
+struct PackLines;
+
+impl Model for PackLines {
+    ghost Value = { Unit {0} };
+
+    ghost view = { λ _. tt };
 }
 
-// A run over the whole input.
-fn run<S: Source, K: Sink>(
-    alloc: Global,
-    command: ValueCommand,
-    source: &mut S,
-    sink: &mut K,
-) -> Status
-    ensures ended { Told (S.left source.old) (S.left source.new) (λ before now.
-        EndedLines (gives command) before result now (K.written sink.old) (K.written sink.new)) }
-    ensures read { result ≡ Status.ReadFault → Rose (S.faults source.old) (S.faults source.new) }
-    ensures write { result ≡ Status.WriteFault → Rose (K.faults sink.old) (K.faults sink.new) }
-    ensures usage { result ≢ Status.Usage }
-    ensures link { result ≢ Status.LinkFault }
-    ensures reads { S.faults source.old ≤ S.faults source.new }
-    ensures writes { K.faults sink.old ≤ K.faults sink.new }
-{
-    let Ok(mut lines) = LineBuf::new(alloc) else {
-        return Status::OutOfMemory;
-    };
-    match all_lines(alloc, command, source, &mut lines, sink) {
-        Ok(()) => Status::Done,
-        Err(status) => status,
+impl LineCommand for PackLines {
+    ghost ready = { λ _. ⊤ };
+
+    ghost gives = { by_itself IsPacked };
+
+    fn output(&mut self, alloc: Global, text: &[u8]) -> Result<List<u8>, Bad> {
+        let Ok(words) = words_of(alloc, text) else {
+            return Err(Bad::Memory);
+        };
+        if does_nothing(text, &words) {
+            return Ok(List::new(alloc));
+        }
+        packed_line(alloc, text)
     }
 }
 
@@ -161,7 +80,7 @@ pub fn show<S: Source, K: Sink>(alloc: Global, source: &mut S, sink: &mut K) -> 
     ensures reads { S.faults source.old ≤ S.faults source.new }
     ensures writes { K.faults sink.old ≤ K.faults sink.new }
 {
-    run(alloc, ValueCommand::Show, source, sink)
+    run_lines(alloc, &mut ShowLines, source, sink)
 }
 
 /// Packs stored values: reads lines of records and properties, as [`show`] writes them, from the source, and writes to the sink
@@ -177,5 +96,5 @@ pub fn pack<S: Source, K: Sink>(alloc: Global, source: &mut S, sink: &mut K) -> 
     ensures reads { S.faults source.old ≤ S.faults source.new }
     ensures writes { K.faults sink.old ≤ K.faults sink.new }
 {
-    run(alloc, ValueCommand::Pack, source, sink)
+    run_lines(alloc, &mut PackLines, source, sink)
 }

@@ -3,7 +3,8 @@ use Rattle.std.specs.Prelude.{◌≡◌, ℕ, List, Option, None, Some, Result, 
 use Rattle.dn_script.specs.declared.bad.Bad.{Bad}
 use Rattle.dn_script.specs.declared.bad.Bad.TheVariants as bad
 use Rattle.dn_script.specs.declared.script.Script.{Script}
-use Rattle.dn_script.specs.Play.{Step}
+use Rattle.dn_script.specs.Play.{Step, step_text}
+use Rattle.dn_script.specs.Said.{GivesIn}
 
 -- why there is nothing: the line isn't valid, or memory ran out
 abbrev pub Lacks : {X : Type 0} → Bad → Option X → Type 0
@@ -23,3 +24,7 @@ GivesOrRefuses (Err why) there = (there ≡ None) × (why ≡ bad.Line)
 abbrev pub Steps : Result (List ℕ) Bad → Script → Step → Type 0
 Steps (Ok output) now step = step ≡ Some (now, output)
 Steps (Err why) now step = Lacks why step
+
+-- what the text of a line gives to a replay: what the script's step by it is
+abbrev pub Replays : GivesIn Script
+Replays script text given = step_text script text ≡ given
