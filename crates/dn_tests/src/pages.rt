@@ -10,15 +10,17 @@ use std::process::Abort;
 
 const NODES: usize = 300;
 
-/// The bytes of a unit of such a node in a packet, but for its value: its key, of 9, and its stamp.
-const HEAD: usize = 37;
+/// The bytes of a unit of such a node in a packet, but for its value: its key, of 10, and its stamp.
+const HEAD: usize = 38;
 
-/// The key of a node: n and three digits under x, so that keys and numbers have one order.
+/// The key of a node: n and four digits under x, so that keys and numbers have one order.
 fn key_of(rt: &impl Abort, node: usize) -> UnitKey {
     let digits = b"0123456789";
-    let (hundreds, tens, ones) = (node / 100 % 10, node / 10 % 10, node % 10);
+    let (thousands, hundreds) = (node / 1000 % 10, node / 100 % 10);
+    let (tens, ones) = (node / 10 % 10, node % 10);
     let text = [
         b'n',
+        digits[thousands],
         digits[hundreds],
         digits[tens],
         digits[ones],
@@ -38,11 +40,16 @@ fn value_of(rt: &impl Abort, alloc: Global, node: usize) -> UnitValue {
     }
 }
 
-/// The table after a write of a node.
-fn put_node(rt: &impl Abort, alloc: Global, table: &Table, node: usize) -> Table {
-    let value = value_of(rt, alloc, node);
+/// The table after a write of this value of a node.
+fn put_value(
+    rt: &impl Abort,
+    alloc: Global,
+    table: &Table,
+    node: usize,
+    value: UnitValue,
+) -> Table {
     assert!(rt; fits(&value));
-    assert!(rt; table.top() < 1000);
+    assert!(rt; table.top() < 10_000);
     let mut batch = List::new(alloc);
     batch
         .push(Write {
@@ -52,6 +59,11 @@ fn put_node(rt: &impl Abort, alloc: Global, table: &Table, node: usize) -> Table
         })
         .expect(rt, "memory");
     table.put(&batch).expect(rt, "memory")
+}
+
+/// The table after a write of a node.
+fn put_node(rt: &impl Abort, alloc: Global, table: &Table, node: usize) -> Table {
+    put_value(rt, alloc, table, node, value_of(rt, alloc, node))
 }
 
 /// The number of the last write of a node, 0 where there is none.
@@ -247,4 +259,66 @@ fn pages_that_grow_at_the_end(rt: HostRuntime) {
     let empty = Table::empty(alloc).expect(&rt, "memory");
     let table = written(&rt, alloc, &empty, &writes);
     check_table(&rt, alloc, &table, &writes, 200);
+}
+
+// So many nodes, each written once in a scrambled order, have more pages than a row takes. A write's place in that order and
+// its node give each other.
+
+const MANY: usize = 4500;
+
+/// The number of the write of a node, 0 behind the last node.
+fn number_of(node: usize) -> u64 {
+    if node < MANY {
+        (node * 3479 % MANY) as u64 + 1
+    } else {
+        0
+    }
+}
+
+/// The table of all these nodes.
+fn many_written(rt: &impl Abort, alloc: Global) -> Table {
+    let mut table = Table::empty(alloc).expect(rt, "memory");
+    for at in 0..MANY {
+        let node = at % MANY * 119 % MANY;
+        table = put_value(rt, alloc, &table, node, UnitValue::Gone);
+    }
+    table
+}
+
+/// The node is found, and the next behind it.
+fn check_many(rt: &impl Abort, table: &Table, node: usize) {
+    let key = key_of(rt, node);
+    let next = number_of(node.saturating_add(1));
+    assert_eq!(rt; number(table.find(&key)), number_of(node));
+    assert_eq!(rt; number(table.next_after(Some(&key))), next);
+}
+
+/// The numbers of the units are those behind a number, one after another.
+fn check_in_a_row(rt: &impl Abort, units: &[Unit], from: u64) {
+    let mut last = from;
+    for unit in units {
+        last = last.saturating_add(1);
+        assert_eq!(rt; unit.usn, last);
+    }
+}
+
+/// The run of changes above a number has as many units as there is room for: the value of each takes one byte.
+fn check_many_run(rt: &impl Abort, table: &Table, from: u64) {
+    let run = changes_of(rt, table, from);
+    let behind = MANY.saturating_sub(from as usize);
+    assert_eq!(rt; run.units.len(), behind.min(61_000 / (HEAD + 1)));
+    check_in_a_row(rt, run.units.as_slice(), from);
+}
+
+#[test]
+fn rows_of_many_pages(rt: HostRuntime) {
+    let alloc = rt.alloc();
+    let table = many_written(&rt, alloc);
+    assert_eq!(&rt; table.count(), MANY);
+    for node in 0..MANY {
+        check_many(&rt, &table, node);
+    }
+    for step in 0..46u64 {
+        check_many_run(&rt, &table, step * 100 % 4501);
+    }
 }
