@@ -24,6 +24,14 @@ lower-wire (label ∷ name) h =
     (lower-small (length label) h.0.1 ∙ sym (length-map label lower_byte))
     (map-append lower_byte label (wire_of name) ∙ ap (λ (xs : List ℕ). lower_label label ++ xs) (lower-wire name h.1))
 
+-- std's word for lower case and ours give the same bytes
+pub folded-label : (label : List ℕ) → map to_ascii_lowercase label ≡ lower_label label
+folded-label label = ap (λ (f : ℕ → ℕ). map f label) (λ i byte. same_lower byte i)
+
+-- the bytes of a name, each in lower case by std's word
+pub folded-wire : (name : Labels) → AllByRecursion IsLabel name → (wire : List ℕ) → wire ≡ wire_of name → map to_ascii_lowercase wire ≡ wire_of (lowered name)
+folded-wire name h wire e = ap (map to_ascii_lowercase) e ∙ folded-label (wire_of name) ∙ lower-wire name h
+
 pub wire_len-lowered : (name : Labels) → wire_len (lowered name) ≡ wire_len name
 wire_len-lowered [] = refl
 wire_len-lowered (label ∷ name) = omega (arith, length-map label lower_byte, wire_len-lowered name)
@@ -39,6 +47,6 @@ pub padded-lowered : (name : Labels) → IsName name → (bytes after : List ℕ
 padded-lowered name is bytes after e lower =
     lower
     ∙ ap (map to_ascii_lowercase) e
-    ∙ ap (λ (f : ℕ → ℕ). map f (padded name)) (λ i byte. same_lower byte i)
+    ∙ folded-label (padded name)
     ∙ map-append lower_byte (wire_of name) (replicate (255 - wire_len name) 0)
     ∙ ap₂ ◌++◌ (lower-wire name is.0) (lower-zeros (255 - wire_len name) ∙ ap (λ (k : ℕ). replicate {A = ℕ} (255 - k) 0) (sym (wire_len-lowered name)))

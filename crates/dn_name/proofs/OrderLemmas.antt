@@ -1,13 +1,15 @@
 -- Names compared.
-use Rattle.std.proofs.Common.{◌≡◌, ℕ, suc, ◌-◌, ◌<◌, ◌≤◌, min, Bool, true, false, ◌||◌, ◌↔◌, IsTrue, nat_eq, List, [], ◌∷◌, ◌++◌, length, take, drop, reverse, Some, refl, sym, ap, ap₂, ◌∙◌, arith, length-drop, length-take, take-append-drop, Ordering, Less, Equal, Greater, nat_cmp}
+use Rattle.std.proofs.Common.{◌≡◌, ℕ, suc, ◌-◌, ◌<◌, ◌≤◌, min, Bool, true, false, ◌||◌, ◌↔◌, IsTrue, nat_eq, List, [], ◌∷◌, ◌++◌, length, map, take, drop, reverse, Some, refl, sym, ap, ap₂, ◌∙◌, arith, length-drop, length-take, take-append-drop, Ordering, Less, Equal, Greater, nat_cmp}
 use Rattle.std.specs.List.{AllByRecursion}
+use Rattle.std.specs.Char.{to_ascii_lowercase}
 use Rattle.std.specs.Ordering.{ordering_then}
 use Rattle.std.specs.Cmp.Lexicographic.{slice_cmp}
 use Rattle.std.proofs.lemmas.Bool.Decides.{nat_tests}
-use Rattle.std.proofs.lemmas.List.{reverse-append, length-reverse}
+use Rattle.std.proofs.lemmas.List.{drop-map, length-map, length-reverse, reverse-append}
 use lib.Pointwise.{pointwise, pointwise_decides, bytes_decides}
-use Rattle.dn_name.specs.Name.{Labels, wire_of, lowered, is_same, is_under, IsUnder, IsLabel}
+use Rattle.dn_name.specs.Name.{Labels, wire_of, lower_label, lowered, is_same, is_under, IsUnder, IsLabel, order}
 use Rattle.dn_name.specs.Walk.{ends_in, order_of, first_of}
+use Rattle.dn_name.proofs.LowerCaseLemmas.{all-lowered, folded-wire}
 use Rattle.dn_name.proofs.LabelWalkLemmas.{wire-injective, the_first, behind_first}
 
 labels_decide : (left right : Labels) → (pointwise (pointwise nat_eq) left right ≡ true → left ≡ right) × (left ≡ right → pointwise (pointwise nat_eq) left right ≡ true)
@@ -24,6 +26,20 @@ same_bytes left right l r =
     same_test (pointwise nat_eq (wire_of left) (wire_of right)) (pointwise (pointwise nat_eq) left right)
     (λ e. (labels_decide left right).1 (wire-injective left right l r ((bytes_decides (wire_of left) (wire_of right)).0 e)))
     (λ e. (bytes_decides (wire_of left) (wire_of right)).1 (ap wire_of ((labels_decide left right).0 e)))
+
+-- names are the same where their bytes in lower case are
+pub same_folded : (left right : Labels) → AllByRecursion IsLabel left → AllByRecursion IsLabel right → (wire other : List ℕ) (test : Bool) → wire ≡ wire_of left → other ≡ wire_of right → IsTrue test ↔ (map to_ascii_lowercase wire ≡ map to_ascii_lowercase other) → test ≡ is_same left right
+same_folded left right l r wire other test e f means =
+    same_test test (is_same left right)
+    (λ h. (labels_decide (lowered left) (lowered right)).1
+    (wire-injective (lowered left) (lowered right) (all-lowered left l) (all-lowered right r) (sym (folded-wire left l wire e) ∙ means.0 h ∙ folded-wire right r other f)))
+    (λ h. means.1 (folded-wire left l wire e ∙ ap wire_of ((labels_decide (lowered left) (lowered right)).0 h) ∙ sym (folded-wire right r other f)))
+
+pub same_means : (left right : Labels) (test : Bool) → test ≡ is_same left right → IsTrue test ↔ (lowered left ≡ lowered right)
+same_means left right test e = (
+  λ h. (labels_decide (lowered left) (lowered right)).0 (sym e ∙ h),
+  λ h. e ∙ (labels_decide (lowered left) (lowered right)).1 h,
+)
 
 -- ---- under
 
@@ -144,6 +160,15 @@ module _ (left right : Labels) (a b : ℕ) (left_more : a ≡ length left - min 
       length_front : (k : ℕ) (xs : Labels) → k ≤ length xs → length (take k xs) ≡ k
       length_front k xs h = omega (arith, length-take k xs)
 
+-- the same of names in lower case, of which the labels are as many
+pub order_lowered : (left right : Labels) (a b : ℕ) → a ≡ length left - min (length left) (length right) → b ≡ length right - min (length left) (length right) → ordering_then (order_of (lowered (drop a left)) (lowered (drop b right))) (nat_cmp (length left) (length right)) ≡ order left right
+order_lowered left right a b left_more right_more =
+    ap₂ (λ (xs ys : Labels). ordering_then (order_of xs ys) (nat_cmp (length left) (length right))) (sym (drop-map lower_label a left)) (sym (drop-map lower_label b right))
+    ∙ ap₂ (λ (n m : ℕ). ordering_then (order_of (drop a (lowered left)) (drop b (lowered right))) (nat_cmp n m)) (sym (length-map left lower_label)) (sym (length-map right lower_label))
+    ∙ order_counted (lowered left) (lowered right) a b
+    (omega (arith, left_more, length-map left lower_label, length-map right lower_label))
+    (omega (arith, right_more, length-map left lower_label, length-map right lower_label))
+
 -- ---- one step of a walk
 
 pub ends_found : (name above : Labels) → AllByRecursion IsLabel name → AllByRecursion IsLabel above → (wire apex : List ℕ) → wire ≡ wire_of name → apex ≡ wire_of above → true ≡ pointwise nat_eq wire apex → true ≡ ends_in name above
@@ -156,10 +181,10 @@ ends_step (one ∷ name) above l r wire apex label rest found e f h first more =
     more name l.1 (ap behind_first first)
     ∙ ap (λ (b : Bool). b || ends_in name above) (h ∙ ap₂ (pointwise nat_eq) e f ∙ same_bytes (one ∷ name) above l r)
 
-pub compare_step : (name other : Labels) → AllByRecursion IsLabel name → AllByRecursion IsLabel other → length name ≡ length other → (label rest label' rest' : List ℕ) (found otherwise : Ordering) → Some (label, rest) ≡ first_of name → Some (label', rest') ≡ first_of other → ((names others : Labels) → AllByRecursion IsLabel names → AllByRecursion IsLabel others → length names ≡ length others → rest ≡ wire_of names → rest' ≡ wire_of others → found ≡ ordering_then (order_of names others) (ordering_then (slice_cmp nat_cmp label label') otherwise)) → found ≡ ordering_then (order_of name other) otherwise
+pub compare_step : (name other : Labels) → AllByRecursion IsLabel name → AllByRecursion IsLabel other → length name ≡ length other → (label rest label' rest' : List ℕ) (found otherwise : Ordering) → Some (label, rest) ≡ first_of name → Some (label', rest') ≡ first_of other → ((names others : Labels) → AllByRecursion IsLabel names → AllByRecursion IsLabel others → length names ≡ length others → rest ≡ wire_of names → rest' ≡ wire_of others → found ≡ ordering_then (order_of (lowered names) (lowered others)) (ordering_then (slice_cmp nat_cmp (lower_label label) (lower_label label')) otherwise)) → found ≡ ordering_then (order_of (lowered name) (lowered other)) otherwise
 compare_step [] other l r same label rest label' rest' found otherwise e f more = cc
 compare_step (one ∷ name) [] l r same label rest label' rest' found otherwise e f more = cc
 compare_step (one ∷ name) (two ∷ other) l r same label rest label' rest' found otherwise e f more =
     more name other l.1 r.1 (omega arith) (ap behind_first e) (ap behind_first f)
-    ∙ ap₂ (λ (x y : List ℕ). ordering_then (order_of name other) (ordering_then (slice_cmp nat_cmp x y) otherwise)) (ap the_first e) (ap the_first f)
-    ∙ order_step one two name other otherwise (omega arith)
+    ∙ ap₂ (λ (x y : List ℕ). ordering_then (order_of (lowered name) (lowered other)) (ordering_then (slice_cmp nat_cmp (lower_label x) (lower_label y)) otherwise)) (ap the_first e) (ap the_first f)
+    ∙ order_step (lower_label one) (lower_label two) (lowered name) (lowered other) otherwise (omega (arith, length-map name lower_label, length-map other lower_label))

@@ -2,8 +2,9 @@
 
 ghost use Rattle.std.specs.Prelude.{◌≡◌, ◌↔◌, IsTrue, length};
 ghost use Rattle.std.specs.List.{AllByRecursion};
-ghost use Rattle.std.specs.Ordering.{ordering_then};
-ghost use Rattle.dn_name.specs.Name.{Labels, IsLabel, IsUnder, is_same, is_under, lowered, order, wire_of};
+ghost use Rattle.std.specs.Ordering.{nat_cmp, ordering_then};
+ghost use Rattle.std.specs.Cmp.Lexicographic.{slice_cmp};
+ghost use Rattle.dn_name.specs.Name.{Labels, IsLabel, IsUnder, is_same, is_under, lower_label, lowered, order, wire_of};
 ghost use Rattle.dn_name.specs.Walk.{ends_in, order_of};
 
 use crate::name::Name;
@@ -16,8 +17,8 @@ impl Name {
         ensures test { result ≡ is_same self.now other.now }
         ensures meaning { IsTrue result ↔ (lowered self.now ≡ lowered other.now) }
     {
-        let (left, right) = (self.lower(), other.lower());
-        left.wire() == right.wire()
+        // A length is at most 63, so no length byte is a letter.
+        self.wire().eq_ignore_ascii_case(other.wire())
     }
 
     /// Whether the name is the apex or stands below it.
@@ -33,12 +34,11 @@ impl Name {
     pub fn compare(&self, other: &Name) -> Ordering
         ensures { result ≡ order self.now other.now }
     {
-        let (left, right) = (self.lower(), other.lower());
-        let (left_count, right_count) = (left.labels(), right.labels());
+        let (left_count, right_count) = (self.labels(), other.labels());
         let shared = left_count.min(right_count);
         compare_labels(
-            skip_labels(left.wire(), left_count - shared),
-            skip_labels(right.wire(), right_count - shared),
+            skip_labels(self.wire(), left_count - shared),
+            skip_labels(other.wire(), right_count - shared),
             left_count.cmp(&right_count),
         )
     }
@@ -57,15 +57,23 @@ fn ends_with(wire: &[u8], apex: &[u8]) -> bool
     }
 }
 
-// The order of names of as many labels, on the wire, by their labels from the last to the first; where these are
-// equal, the one that is given.
+// The order of names of as many labels, on the wire, by their labels from the last to the first, in lower case; where
+// these are equal, the one that is given. Names are compared at each step of a search, so nothing is copied.
 fn compare_labels(left: &[u8], right: &[u8], otherwise: Ordering) -> Ordering
-    ensures { (name other : Labels) → AllByRecursion IsLabel name → AllByRecursion IsLabel other → length name ≡ length other → left.now ≡ wire_of name → right.now ≡ wire_of other → result ≡ ordering_then (order_of name other) otherwise }
+    ensures { (name other : Labels) → AllByRecursion IsLabel name → AllByRecursion IsLabel other → length name ≡ length other → left.now ≡ wire_of name → right.now ≡ wire_of other → result ≡ ordering_then (order_of (lowered name) (lowered other)) otherwise }
 {
     match (split_label(left), split_label(right)) {
         (Some((label, left)), Some((other, right))) => {
-            compare_labels(left, right, label.cmp(other).then(otherwise))
+            compare_labels(left, right, compare_folded(label, other).then(otherwise))
         }
         _ => otherwise,
     }
+}
+
+// The order of labels by their bytes, letters in lower case.
+fn compare_folded(left: &[u8], right: &[u8]) -> Ordering
+    ensures { result ≡ slice_cmp nat_cmp (lower_label left.now) (lower_label right.now) }
+{
+    let left = left.iter().map(u8::to_ascii_lowercase);
+    left.cmp(right.iter().map(u8::to_ascii_lowercase))
 }
