@@ -1,8 +1,7 @@
--- Changes in the order of their numbers: what stays as one is taken out and another put behind all.
+-- Units in the order of their numbers: what stays as one is taken out and another put behind all.
 use Rattle.std.proofs.Common.{◌≡◌, ◌≢◌, ℕ, zero, suc, ◌+◌, ◌<◌, ◌≤◌, Bool, true, false, cond, List, [], ◌∷◌, ◌++◌, drop, filter, length, map, refl, ap, sym, subst, ◌∙◌, arith, nat_lt, lt-ltb, Option, Some, None, ⊎_elim}
 use Rattle.std.proofs.lemmas.Bool.{cases_Bool, false≢true, le-leb, leb-false, leb-true, ltb-true}
 use Rattle.std.proofs.lemmas.Bool.Decides.{nat_tests}
-use Rattle.std.proofs.lemmas.List.{map-append}
 use Rattle.std.specs.List.{AllByRecursion, position_or_len, remove}
 use Rattle.std.specs.List.Sorted.{IsStrictlySortedBy}
 use Rattle.std.specs.Ordering.{is_eq, nat_cmp}
@@ -11,11 +10,11 @@ use Rattle.std.specs.declared.cmp.Ordering.TheVariants.{Less}
 use Rattle.dn_pages.specs.Search.{IsCut}
 use Rattle.dn_pages.proofs.CallerLemmas.{Rises, cut_place}
 use Rattle.dn_store.specs.declared.unit.Unit as units
-use Rattle.dn_store.specs.declared.unit.Change.{Change}
-use Rattle.dn_store.specs.Numbers.{IsKept, Rising, change_of, change_order, has_number, without, without_at}
+use Rattle.dn_store.specs.Numbers.{IsKept, Rising, has_number, without, without_at}
+use Rattle.dn_store.specs.Run.{usn_order}
 use Rattle.dn_store.specs.Table.{Differ, IsNumber, KeysGrow, by_number, has_key, placed, placed_by_number, unit_at}
 use Rattle.dn_store.specs.Value.{key_order}
-use Rattle.dn_store.proofs.ListLemmas.{all_filter, all_found, all_map, all_permuted, all_then, all_unmap, filter_all}
+use Rattle.dn_store.proofs.ListLemmas.{all_filter, all_found, all_permuted, all_then, all_unmap, filter_all}
 use Rattle.dn_store.proofs.NumberLemmas.{grow_by_number, sorted_permutes}
 use Rattle.dn_store.proofs.OrderLemmas.{all_after, key_same}
 use Rattle.dn_store.proofs.PlaceLemmas.{none_after}
@@ -23,33 +22,31 @@ use Rattle.dn_store.proofs.TakenLemmas.{IsSoundList, sound_placed, where_placed}
 
 -- ---- numbers that rise
 
-rising_map : (list : List units.Unit) → IsStrictlySortedBy (λ unit other. nat_cmp unit.usn other.usn) list → Rising (map change_of list)
-unfolding IsStrictlySortedBy
-rising_map [] sorted = tt
-rising_map (unit ∷ list) sorted = (all_map (λ later. change_order (change_of unit) later ≡ Less) change_of list sorted.0, rising_map list sorted.1)
+pub rising_paged : (list changes : List units.Unit) → Differ (map (λ unit. unit.usn) list) → changes ≡ by_number list → Rising changes
+rising_paged list changes differ is = subst Rising (sym is) (grow_by_number list differ)
 
-pub rising_kept : (list : List units.Unit) (changes : List Change) (top : ℕ) → IsKept list changes top → Rising changes
-rising_kept list changes top kept = subst Rising (sym kept.indexed) (rising_map (by_number list) (grow_by_number list kept.differ))
+pub rising_kept : (list changes : List units.Unit) (top : ℕ) → IsKept list changes top → Rising changes
+rising_kept list changes top kept = rising_paged list changes kept.differ kept.indexed
 
 less_than : (x y : ℕ) → nat_cmp x y ≡ Less → x < y
 less_than x y is = grind (arith, nat_tests, is)
 
-change_less : (change later : Change) → change_order change later ≡ Less → change.usn < later.usn
-change_less change later is = less_than change.usn later.usn is
+usn_less : (unit later : units.Unit) → usn_order unit later ≡ Less → unit.usn < later.usn
+usn_less unit later is = less_than unit.usn later.usn is
 
-from_rises : (usn : ℕ) → Rises change_order (λ change. nat_le usn change.usn)
-from_rises usn change later less passes =
-    let a : change.usn < later.usn = change_less change later less in
-    let b : usn ≤ change.usn = leb-true usn change.usn passes in
+from_rises : (usn : ℕ) → Rises usn_order (λ unit. nat_le usn unit.usn)
+from_rises usn unit later less passes =
+    let a : unit.usn < later.usn = usn_less unit later less in
+    let b : usn ≤ unit.usn = leb-true usn unit.usn passes in
     le-leb usn later.usn (omega (arith, a, b))
 
-pub after_rises : (usn : ℕ) → Rises change_order (λ change. nat_lt usn change.usn)
-after_rises usn change later less passes =
-    let a : change.usn < later.usn = change_less change later less in
-    let b : usn < change.usn = ltb-true usn change.usn passes in
+pub after_rises : (usn : ℕ) → Rises usn_order (λ unit. nat_lt usn unit.usn)
+after_rises usn unit later less passes =
+    let a : unit.usn < later.usn = usn_less unit later less in
+    let b : usn < unit.usn = ltb-true usn unit.usn passes in
     lt-ltb usn later.usn (omega (arith, a, b))
 
--- ---- a change that is taken out
+-- ---- a unit that is taken out
 
 apart_test : (m n : ℕ) → m ≢ n → not (m == n) ≡ true
 apart_test m n apart = grind (arith, nat_tests)
@@ -57,77 +54,74 @@ apart_test m n apart = grind (arith, nat_tests)
 same_test : (n : ℕ) → not (n == n) ≡ false
 same_test n = grind (arith, nat_tests)
 
--- the change at the place of its number taken out, if it is there
-abbrev gone_from : ℕ → List Change → ℕ → List Change
+-- the unit at the place of its number taken out, if it is there
+abbrev gone_from : ℕ → List units.Unit → ℕ → List units.Unit
 gone_from usn list at = if has_number usn (slice_get list at) then remove list at else list
 
-later_apart : (usn : ℕ) (change : Change) (list : List Change) → usn ≤ change.usn → AllByRecursion (λ later. change_order change later ≡ Less) list → AllByRecursion (λ later. not (later.usn == usn) ≡ true) list
-later_apart usn change list le all =
-    all_then (λ later. change_order change later ≡ Less) (λ later. not (later.usn == usn) ≡ true) list
-    (λ later less. let a : change.usn < later.usn = change_less change later less in apart_test later.usn usn (λ e. absurd (omega (arith, a, e, le)))) all
+later_apart : (usn : ℕ) (unit : units.Unit) (list : List units.Unit) → usn ≤ unit.usn → AllByRecursion (λ later. usn_order unit later ≡ Less) list → AllByRecursion (λ later. not (later.usn == usn) ≡ true) list
+later_apart usn unit list le all =
+    all_then (λ later. usn_order unit later ≡ Less) (λ later. not (later.usn == usn) ≡ true) list
+    (λ later less. let a : unit.usn < later.usn = usn_less unit later less in apart_test later.usn usn (λ e. absurd (omega (arith, a, e, le)))) all
 
-over_one : (usn : ℕ) (change : Change) (list : List Change) (at : ℕ) (b : Bool) → (if b then remove (change ∷ list) (suc at) else change ∷ list) ≡ change ∷ (if b then remove list at else list)
-over_one usn change list at true = refl
-over_one usn change list at false = refl
+over_one : (usn : ℕ) (unit : units.Unit) (list : List units.Unit) (at : ℕ) (b : Bool) → (if b then remove (unit ∷ list) (suc at) else unit ∷ list) ≡ unit ∷ (if b then remove list at else list)
+over_one usn unit list at true = refl
+over_one usn unit list at false = refl
 
-here_one : (usn : ℕ) (change : Change) (list : List Change) (b : Bool) → (change.usn == usn) ≡ b → filter (λ later. not (later.usn == usn)) list ≡ list
-    → cond (not b) (change ∷ without usn list) (without usn list) ≡ (if b then list else change ∷ list)
-here_one usn change list true is rest = rest
-here_one usn change list false is rest = ap (λ later. change ∷ later) rest
+here_one : (usn : ℕ) (unit : units.Unit) (list : List units.Unit) (b : Bool) → (unit.usn == usn) ≡ b → filter (λ later. not (later.usn == usn)) list ≡ list
+    → cond (not b) (unit ∷ without usn list) (without usn list) ≡ (if b then list else unit ∷ list)
+here_one usn unit list true is rest = rest
+here_one usn unit list false is rest = ap (λ later. unit ∷ later) rest
 
-without_place : (usn : ℕ) (list : List Change) → Rising list → without usn list ≡ gone_from usn list (position_or_len (λ change. nat_le usn change.usn) list)
+without_place : (usn : ℕ) (list : List units.Unit) → Rising list → without usn list ≡ gone_from usn list (position_or_len (λ unit. nat_le usn unit.usn) list)
 unfolding IsStrictlySortedBy
 without_place usn [] rising = refl
-without_place usn (change ∷ list) rising =
-    let place : ℕ = position_or_len (λ change. nat_le usn change.usn) list in
+without_place usn (unit ∷ list) rising =
+    let place : ℕ = position_or_len (λ unit. nat_le usn unit.usn) list in
     let e : 1 + place ≡ suc place = omega arith in
     ⊎_elim
     (λ passes.
-    let rest : without usn list ≡ list = filter_all (λ later. not (later.usn == usn)) list (later_apart usn change list (leb-true usn change.usn passes) rising.0) in
-    rw passes (here_one usn change list (change.usn == usn) refl rest))
+    let rest : without usn list ≡ list = filter_all (λ later. not (later.usn == usn)) list (later_apart usn unit list (leb-true usn unit.usn passes) rising.0) in
+    rw passes (here_one usn unit list (unit.usn == usn) refl rest))
     (λ out.
-    let less : change.usn < usn = leb-false usn change.usn out in
-    let kept : not (change.usn == usn) ≡ true = apart_test change.usn usn (λ same. absurd (omega (arith, less, same))) in
-    rw (out, e, kept) (ap (λ later. change ∷ later) (without_place usn list rising.1) ∙ sym (over_one usn change list place (has_number usn (slice_get list place)))))
-    (cases_Bool (nat_le usn change.usn))
+    let less : unit.usn < usn = leb-false usn unit.usn out in
+    let kept : not (unit.usn == usn) ≡ true = apart_test unit.usn usn (λ same. absurd (omega (arith, less, same))) in
+    rw (out, e, kept) (ap (λ later. unit ∷ later) (without_place usn list rising.1) ∙ sym (over_one usn unit list place (has_number usn (slice_get list place)))))
+    (cases_Bool (nat_le usn unit.usn))
 
-pub without_at_cut : (usn : ℕ) (list : List Change) (at : ℕ) → Rising list → IsCut (λ change. not (nat_le usn change.usn)) list at → gone_from usn list at ≡ without usn list
+pub without_at_cut : (usn : ℕ) (list : List units.Unit) (at : ℕ) → Rising list → IsCut (λ unit. not (nat_le usn unit.usn)) list at → gone_from usn list at ≡ without usn list
 without_at_cut usn list at rising cut =
-    ap (gone_from usn list) (cut_place change_order (λ change. nat_le usn change.usn) (from_rises usn) list at rising cut) ∙ sym (without_place usn list rising)
+    ap (gone_from usn list) (cut_place usn_order (λ unit. nat_le usn unit.usn) (from_rises usn) list at rising cut) ∙ sym (without_place usn list rising)
 
-pub number_before : (usn : ℕ) (list : List Change) (at : ℕ) → has_number usn (slice_get list at) ≡ true → at < length list
+pub number_before : (usn : ℕ) (list : List units.Unit) (at : ℕ) → has_number usn (slice_get list at) ≡ true → at < length list
 number_before usn [] at is = absurd (false≢true is)
-number_before usn (change ∷ list) zero is = omega arith
-number_before usn (change ∷ list) (suc at) is = let later : at < length list = number_before usn list at is in omega (arith, later)
+number_before usn (unit ∷ list) zero is = omega arith
+number_before usn (unit ∷ list) (suc at) is = let later : at < length list = number_before usn list at is in omega (arith, later)
 
 -- the same, for a test and an answer as a call saw them
-pub taken_out : (usn : ℕ) (list new : List Change) (at : ℕ) (found : Option Change) (test b : Bool) → Rising list → IsCut (λ change. not (nat_le usn change.usn)) list at → found ≡ slice_get list at
+pub taken_out : (usn : ℕ) (list new : List units.Unit) (at : ℕ) (found : Option units.Unit) (test b : Bool) → Rising list → IsCut (λ unit. not (nat_le usn unit.usn)) list at → found ≡ slice_get list at
     → test ≡ has_number usn found → test ≡ b → new ≡ (if b then remove list at else list) → new ≡ without usn list
 taken_out usn list new at found test b rising cut there says is made =
     made ∙ ap (λ (t : Bool). if t then remove list at else list) (sym is ∙ says ∙ ap (has_number usn) there) ∙ without_at_cut usn list at rising cut
 
 -- what stands behind the place are all that pass
-pub drop_place : (usn : ℕ) (list : List Change) → Rising list → drop (position_or_len (λ change. nat_lt usn change.usn) list) list ≡ filter (λ change. nat_lt usn change.usn) list
+pub drop_place : (usn : ℕ) (list : List units.Unit) → Rising list → drop (position_or_len (λ unit. nat_lt usn unit.usn) list) list ≡ filter (λ unit. nat_lt usn unit.usn) list
 unfolding IsStrictlySortedBy
 drop_place usn [] rising = refl
-drop_place usn (change ∷ list) rising =
-    let test : Change → Bool = λ one. nat_lt usn one.usn in
+drop_place usn (unit ∷ list) rising =
+    let test : units.Unit → Bool = λ one. nat_lt usn one.usn in
     let e : 1 + position_or_len test list ≡ suc (position_or_len test list) = omega arith in
     ⊎_elim
     (λ passes.
-    let all : AllByRecursion (λ later. test later ≡ true) list = all_then (λ later. change_order change later ≡ Less) (λ later. test later ≡ true) list (λ later less. after_rises usn change later less passes) rising.0 in
-    rw passes (ap (λ later. change ∷ later) (sym (filter_all test list all))))
+    let all : AllByRecursion (λ later. test later ≡ true) list = all_then (λ later. usn_order unit later ≡ Less) (λ later. test later ≡ true) list (λ later less. after_rises usn unit later less passes) rising.0 in
+    rw passes (ap (λ later. unit ∷ later) (sym (filter_all test list all))))
     (λ out. rw out (rw e (drop_place usn list rising.1)))
-    (cases_Bool (nat_lt usn change.usn))
+    (cases_Bool (nat_lt usn unit.usn))
 
 -- ---- the units by number, as one is put into its place
 
-abbrev gone : ℕ → List units.Unit → List units.Unit
-gone usn list = filter (λ unit. not (unit.usn == usn)) list
-
 abbrev gone_at : Option units.Unit → List units.Unit → List units.Unit
 gone_at None list = list
-gone_at (Some old) list = gone old.usn list
+gone_at (Some old) list = without old.usn list
 
 abbrev AllApart : ℕ → List units.Unit → Type 0
 AllApart usn list = AllByRecursion (λ unit. unit.usn ≢ usn) list
@@ -154,15 +148,15 @@ placed_under : (first last : units.Unit) (list : List units.Unit) → first.usn 
 placed_under first last [] less = let e : nat_lt first.usn last.usn ≡ true = lt-ltb first.usn last.usn less in rw e refl
 placed_under first last (next ∷ list) less = under_one first last next list (nat_lt first.usn next.usn) (placed_under first last list less)
 
-gone_none : (usn : ℕ) (list : List units.Unit) → AllApart usn list → gone usn list ≡ list
+gone_none : (usn : ℕ) (list : List units.Unit) → AllApart usn list → without usn list ≡ list
 gone_none usn list all = filter_all (λ unit. not (unit.usn == usn)) list (all_then (λ unit. unit.usn ≢ usn) (λ unit. not (unit.usn == usn) ≡ true) list (λ unit apart. apart_test unit.usn usn apart) all)
 
-same_one : (unit next : units.Unit) (list : List units.Unit) (b : Bool) → next.usn ≢ unit.usn → AllApart unit.usn list → gone unit.usn (placed_by_number unit list) ≡ list
-    → gone unit.usn (cond b (unit ∷ next ∷ list) (next ∷ placed_by_number unit list)) ≡ next ∷ list
+same_one : (unit next : units.Unit) (list : List units.Unit) (b : Bool) → next.usn ≢ unit.usn → AllApart unit.usn list → without unit.usn (placed_by_number unit list) ≡ list
+    → without unit.usn (cond b (unit ∷ next ∷ list) (next ∷ placed_by_number unit list)) ≡ next ∷ list
 same_one unit next list true apart all is = let e = same_test unit.usn in rw e (gone_none unit.usn (next ∷ list) (apart, all))
 same_one unit next list false apart all is = let e = apart_test next.usn unit.usn apart in rw e (ap (λ (l : List units.Unit). next ∷ l) is)
 
-gone_same : (unit : units.Unit) (list : List units.Unit) → AllApart unit.usn list → gone unit.usn (placed_by_number unit list) ≡ list
+gone_same : (unit : units.Unit) (list : List units.Unit) → AllApart unit.usn list → without unit.usn (placed_by_number unit list) ≡ list
 gone_same unit [] all = let e = same_test unit.usn in rw e refl
 gone_same unit (next ∷ list) all = same_one unit next list (nat_lt unit.usn next.usn) all.0 all.1 (gone_same unit list all.1)
 
@@ -179,22 +173,22 @@ above_first : (first : ℕ) (next : units.Unit) (list : List units.Unit) → fir
 above_first first next list less all =
     all_then (λ later. nat_cmp next.usn later.usn ≡ Less) (λ later. first < later.usn) list (λ later is. let a : next.usn < later.usn = less_than next.usn later.usn is in omega (arith, a, less)) all
 
-later_one : (usn : ℕ) (unit next : units.Unit) (list : List units.Unit) (t : Bool) → nat_lt unit.usn next.usn ≡ false → gone usn (placed_by_number unit list) ≡ placed_by_number unit (gone usn list)
-    → cond t (next ∷ gone usn (placed_by_number unit list)) (gone usn (placed_by_number unit list)) ≡ placed_by_number unit (cond t (next ∷ gone usn list) (gone usn list))
+later_one : (usn : ℕ) (unit next : units.Unit) (list : List units.Unit) (t : Bool) → nat_lt unit.usn next.usn ≡ false → without usn (placed_by_number unit list) ≡ placed_by_number unit (without usn list)
+    → cond t (next ∷ without usn (placed_by_number unit list)) (without usn (placed_by_number unit list)) ≡ placed_by_number unit (cond t (next ∷ without usn list) (without usn list))
 later_one usn unit next list true is later = rw is (ap (λ (l : List units.Unit). next ∷ l) later)
 later_one usn unit next list false is later = later
 
 gone_one : (usn : ℕ) (unit next : units.Unit) (list : List units.Unit) (b : Bool) → nat_lt unit.usn next.usn ≡ b → unit.usn ≢ usn → AllByRecursion (λ later. nat_cmp next.usn later.usn ≡ Less) list
-    → gone usn (placed_by_number unit list) ≡ placed_by_number unit (gone usn list)
-    → gone usn (cond b (unit ∷ next ∷ list) (next ∷ placed_by_number unit list)) ≡ placed_by_number unit (gone usn (next ∷ list))
+    → without usn (placed_by_number unit list) ≡ placed_by_number unit (without usn list)
+    → without usn (cond b (unit ∷ next ∷ list) (next ∷ placed_by_number unit list)) ≡ placed_by_number unit (without usn (next ∷ list))
 gone_one usn unit next list true is apart order later =
     let e = apart_test unit.usn usn apart in
     let less : unit.usn < next.usn = ltb-true unit.usn next.usn is in
     let all : AllByRecursion (λ later. unit.usn < later.usn) (next ∷ list) = (less, above_first unit.usn next list less order) in
-    rw e (sym (placed_front unit (gone usn (next ∷ list)) (all_filter (λ later. unit.usn < later.usn) (λ one. not (one.usn == usn)) (next ∷ list) all)))
+    rw e (sym (placed_front unit (without usn (next ∷ list)) (all_filter (λ later. unit.usn < later.usn) (λ one. not (one.usn == usn)) (next ∷ list) all)))
 gone_one usn unit next list false is apart order later = later_one usn unit next list (not (next.usn == usn)) is later
 
-gone_other : (usn : ℕ) (unit : units.Unit) (list : List units.Unit) → unit.usn ≢ usn → InOrder list → gone usn (placed_by_number unit list) ≡ placed_by_number unit (gone usn list)
+gone_other : (usn : ℕ) (unit : units.Unit) (list : List units.Unit) → unit.usn ≢ usn → InOrder list → without usn (placed_by_number unit list) ≡ placed_by_number unit (without usn list)
 unfolding IsStrictlySortedBy
 gone_other usn unit [] apart order = let e = apart_test unit.usn usn apart in rw e refl
 gone_other usn unit (next ∷ list) apart order = gone_one usn unit next list (nat_lt unit.usn next.usn) refl apart order.0 (gone_other usn unit list apart order.1)
@@ -228,23 +222,14 @@ numbering unit (next ∷ rest) grow differ under =
     ∙ ap (λ (l : List units.Unit). l ++ unit ∷ [])
     (gone_later (unit_at unit.key rest) next (by_number rest) (λ old found. all_found (λ one. one.usn ≢ next.usn) (has_key unit.key) rest old (apart_units next rest differ.0) found) (grow_by_number rest differ.1))))
 
--- ---- changes kept beside units
+-- ---- units kept beside units
 
-without_one : (usn : ℕ) (unit : units.Unit) (list : List units.Unit) (b : Bool) → map change_of (gone usn list) ≡ without usn (map change_of list)
-    → map change_of (cond b (unit ∷ gone usn list) (gone usn list)) ≡ cond b (change_of unit ∷ without usn (map change_of list)) (without usn (map change_of list))
-without_one usn unit list true is = ap (λ (l : List Change). change_of unit ∷ l) is
-without_one usn unit list false is = is
-
-without_gone : (usn : ℕ) (list : List units.Unit) → map change_of (gone usn list) ≡ without usn (map change_of list)
-without_gone usn [] = refl
-without_gone usn (unit ∷ list) = without_one usn unit list (not (unit.usn == usn)) (without_gone usn list)
-
-gone_at_is : (o : Option units.Unit) (list : List units.Unit) → map change_of (gone_at o list) ≡ without_at (option_map (λ unit. unit.usn) o) (map change_of list)
+gone_at_is : (o : Option units.Unit) (list : List units.Unit) → gone_at o list ≡ without_at (option_map (λ unit. unit.usn) o) list
 gone_at_is None list = refl
-gone_at_is (Some old) list = without_gone old.usn list
+gone_at_is (Some old) list = refl
 
-pub kept_placed : (unit : units.Unit) (list new : List units.Unit) (changes later : List Change) (top : ℕ) → unit.usn ≡ top + 1 → new ≡ placed unit list
-    → later ≡ without_at (option_map (λ one. one.usn) (unit_at unit.key list)) changes ++ change_of unit ∷ [] → IsKept list changes top → IsKept new later (top + 1)
+pub kept_placed : (unit : units.Unit) (list new changes later : List units.Unit) (top : ℕ) → unit.usn ≡ top + 1 → new ≡ placed unit list
+    → later ≡ without_at (option_map (λ one. one.usn) (unit_at unit.key list)) changes ++ unit ∷ [] → IsKept list changes top → IsKept new later (top + 1)
 kept_placed unit list new changes later top is made moved kept =
     let sound : IsSoundList (placed unit list) (top + 1) = sound_placed top unit list is (record { ordered = kept.ordered; numbers = kept.numbers; differ = kept.differ }) in
     let under : AllUnder unit.usn list = all_then (λ one. IsNumber top one.usn) (λ one. one.usn < unit.usn) list (λ one number. let le : one.usn ≤ top = number.1 in omega (arith, le, is)) kept.numbers in
@@ -254,8 +239,7 @@ kept_placed unit list new changes later top is made moved kept =
       numbers = sound.numbers;
       differ = sound.differ;
       indexed =
-          moved ∙ ap (λ (l : List Change). without_at (option_map (λ one. one.usn) (unit_at unit.key list)) l ++ change_of unit ∷ []) kept.indexed
-          ∙ ap (λ (l : List Change). l ++ change_of unit ∷ []) (sym (gone_at_is (unit_at unit.key list) (by_number list)))
-          ∙ sym (map-append change_of (gone_at (unit_at unit.key list) (by_number list)) (unit ∷ []))
-          ∙ ap (map change_of) (sym (numbering unit list kept.ordered kept.differ under));
+          moved ∙ ap (λ (l : List units.Unit). without_at (option_map (λ one. one.usn) (unit_at unit.key list)) l ++ unit ∷ []) kept.indexed
+          ∙ ap (λ (l : List units.Unit). l ++ unit ∷ []) (sym (gone_at_is (unit_at unit.key list) (by_number list)))
+          ∙ sym (numbering unit list kept.ordered kept.differ under);
     })

@@ -1,13 +1,11 @@
 ghost use Rattle.std.specs.Prelude.{◌≡◌, ◌-◌, ◌≤◌, drop, nat_le, if◌then◌else◌, Some, None, IfOk};
 ghost use Rattle.dn_pages.specs.Pages.{IsSettled, items, rank};
-ghost use Rattle.dn_store.specs.Fronts.{IsFront, added, left_by};
-ghost use Rattle.dn_store.specs.Numbers.{IsKept};
-ghost use Rattle.dn_store.specs.Table.{KeysGrow, form_size, key_size, last_number, newer, run_after, unit_at};
+ghost use Rattle.dn_store.specs.Fronts.{IsFront, above, added, run_above};
+ghost use Rattle.dn_store.specs.Numbers.{Rising};
+ghost use Rattle.dn_store.specs.Table.{form_size, key_size, last_number};
 
-use crate::finding::find_key;
 use crate::held::Held;
 use crate::marks::After;
-use crate::unit::Change;
 use crate::{ChangeRun, Unit, UnitKey, value_len};
 use dn_io::{Duplicate, List, OutOfMemory};
 use dn_pages::{Pages, Place};
@@ -42,7 +40,7 @@ fn add_unit(
     room: usize,
     front: &mut List<Unit>,
 ) -> Result<Option<usize>, OutOfMemory>
-    ensures { IfOk result (λ left. added (Some unit.now) room front.old ≡ (front.new, left)) }
+    ensures { IfOk result (λ left. added unit.now room front.old ≡ (front.new, left)) }
 {
     match room_after(room, unit) {
         None => Ok(None),
@@ -53,23 +51,6 @@ fn add_unit(
     }
 }
 
-// Adds a copy of the unit that a change left.
-fn add_change(
-    alloc: Global,
-    units: &Pages<Held>,
-    change: &Change,
-    room: usize,
-    front: &mut List<Unit>,
-) -> Result<Option<usize>, OutOfMemory>
-    requires { KeysGrow (items units.now) }
-    ensures { IfOk result (λ left. added (unit_at change.now.key (items units.now)) room front.old ≡ (front.new, left)) }
-{
-    match find_key(units, &change.key) {
-        None => Ok(Some(room)),
-        Some(unit) => add_unit(alloc, unit, room, front),
-    }
-}
-
 // The units of a run, and whether none is left over.
 #[derive(Drop)]
 struct Front {
@@ -77,23 +58,21 @@ struct Front {
     whole: bool,
 }
 
-// The units that the changes from a place on left, as far as there is room.
+// The units from a place on, as far as there is room.
 fn front_of(
     alloc: Global,
-    units: &Pages<Held>,
-    changes: &Pages<Change>,
+    changes: &Pages<Held>,
     start: Place,
     room: usize,
 ) -> Result<Front, OutOfMemory>
-    requires keys { KeysGrow (items units.now) }
-    requires settled { IsSettled changes.now start }
-    ensures { IfOk result (λ front. IsFront room (left_by (items units.now) (drop (rank changes.now start) (items changes.now))) front.units front.whole) }
+    requires { IsSettled changes.now start }
+    ensures { IfOk result (λ front. IsFront room (drop (rank changes.now start) (items changes.now)) front.units front.whole) }
 {
     let mut found = List::new(alloc);
     let mut left = room;
     let mut place = start;
-    while let Some(change) = changes.item_at(place) {
-        match add_change(alloc, units, change, left, &mut found)? {
+    while let Some(held) = changes.item_at(place) {
+        match add_unit(alloc, held.unit(), left, &mut found)? {
             None => {
                 return Ok(Front {
                     units: found,
@@ -112,20 +91,18 @@ fn front_of(
     })
 }
 
-// The units above a number in the order of their numbers, as far as there is room.
+// The units above a number, as far as there is room.
 fn newer_front(
     alloc: Global,
-    units: &Pages<Held>,
-    changes: &Pages<Change>,
+    changes: &Pages<Held>,
     usn: u64,
     room: usize,
-    top: u64,
 ) -> Result<Front, OutOfMemory>
-    requires { IsKept (items units.now) (items changes.now) top }
-    ensures { IfOk result (λ front. IsFront room (newer usn (items units.now)) front.units front.whole) }
+    requires { Rising (items changes.now) }
+    ensures { IfOk result (λ front. IsFront room (above usn (items changes.now)) front.units front.whole) }
 {
     let start = changes.place_of(&After { usn });
-    front_of(alloc, units, changes, start, room)
+    front_of(alloc, changes, start, room)
 }
 
 // The number of the last unit, `none` where there is none.
@@ -146,19 +123,18 @@ fn end_of(whole: bool, top: u64, none: u64, units: &[Unit]) -> u64
     if whole { top } else { last_of(none, units) }
 }
 
-// The run of changes above a number, of a table with this change count.
+// The run of changes above a number, of units that are in the order of their numbers, with this change count.
 pub fn run_of(
     alloc: Global,
     usn: u64,
     room: usize,
     top: u64,
-    units: &Pages<Held>,
-    changes: &Pages<Change>,
+    changes: &Pages<Held>,
 ) -> Result<ChangeRun, OutOfMemory>
-    requires { IsKept (items units.now) (items changes.now) top }
-    ensures { IfOk result (λ run. run ≡ run_after usn room top (items units.now)) }
+    requires { Rising (items changes.now) }
+    ensures { IfOk result (λ run. run ≡ run_above usn room top (items changes.now)) }
 {
-    let front = newer_front(alloc, units, changes, usn, room, top)?;
+    let front = newer_front(alloc, changes, usn, room)?;
     let to = end_of(front.whole, top, usn, front.units.as_slice());
     Ok(ChangeRun {
         to,

@@ -4,7 +4,7 @@ ghost use Rattle.dn_store.specs.Value.{key_order};
 
 use crate::held::Held;
 use crate::order::compare_keys;
-use crate::unit::{Change, UnitKey};
+use crate::unit::UnitKey;
 use dn_pages::Mark;
 
 // At the first unit whose key isn't below the key.
@@ -30,30 +30,30 @@ impl Mark<Held> for Past {
     }
 }
 
-// The mark at the first change that has the number or a greater one.
+// The mark at the first unit that has the number or a greater one.
 #[derive(Clone, Copy)]
 pub struct From {
     pub usn: u64,
 }
 
-impl Mark<Change> for From {
-    ghost below = { λ mark change. not (nat_le mark.usn change.usn) };
+impl Mark<Held> for From {
+    ghost below = { λ mark unit. not (nat_le mark.usn unit.usn) };
 
-    fn is_above(&self, item: &Change) -> bool {
-        item.usn < self.usn
+    fn is_above(&self, item: &Held) -> bool {
+        item.unit().usn < self.usn
     }
 }
 
-// The mark at the first change with a greater number.
+// The mark at the first unit with a greater number.
 #[derive(Clone, Copy)]
 pub struct After {
     pub usn: u64,
 }
 
-impl Mark<Change> for After {
-    ghost below = { λ mark change. not (nat_lt mark.usn change.usn) };
+impl Mark<Held> for After {
+    ghost below = { λ mark unit. not (nat_lt mark.usn unit.usn) };
 
-    fn is_above(&self, item: &Change) -> bool {
-        item.usn <= self.usn
+    fn is_above(&self, item: &Held) -> bool {
+        item.unit().usn <= self.usn
     }
 }

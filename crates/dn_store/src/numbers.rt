@@ -2,22 +2,22 @@ ghost use Rattle.std.specs.Prelude.{◌≡◌, ◌++◌, ◌∷◌, [], IfOk, op
 ghost use Rattle.dn_pages.specs.Pages.{items};
 ghost use Rattle.dn_store.specs.Numbers.{Rising, has_number, without, without_at};
 
+use crate::held::Held;
 use crate::marks::From;
-use crate::unit::{Change, UnitKey};
 use dn_io::OutOfMemory;
 use dn_pages::Draft;
 
-fn is_numbered(change: Option<&Change>, usn: u64) -> bool
-    ensures { result ≡ has_number usn (option_copied change.entry) }
+fn is_numbered(held: Option<&Held>, usn: u64) -> bool
+    ensures { result ≡ has_number usn (option_copied held.entry) }
 {
-    match change {
+    match held {
         None => false,
-        Some(change) => change.usn == usn,
+        Some(held) => held.unit().usn == usn,
     }
 }
 
-// The changes without that of a number.
-fn forget(changes: Draft<Change>, usn: u64) -> Result<Draft<Change>, OutOfMemory>
+// The units without that of a number.
+fn forget(changes: Draft<Held>, usn: u64) -> Result<Draft<Held>, OutOfMemory>
     requires { Rising (items changes) }
     ensures { IfOk result (λ rest. items rest ≡ without usn (items changes)) }
 {
@@ -29,26 +29,17 @@ fn forget(changes: Draft<Change>, usn: u64) -> Result<Draft<Change>, OutOfMemory
     }
 }
 
-// A change of a number, at a key.
-fn change_at(usn: u64, key: &UnitKey) -> Change
-    ensures { result ≡ record { usn = usn; key = key.now } }
-{
-    let key = *key;
-    Change { usn, key }
-}
-
-// The changes without that of the old number, if there is one, and with a change behind all others.
+// The units without that of the old number, if there is one, and with a unit behind all others.
 pub fn renumber(
-    changes: Draft<Change>,
+    changes: Draft<Held>,
     old: Option<u64>,
-    usn: u64,
-    key: &UnitKey,
-) -> Result<Draft<Change>, OutOfMemory>
+    unit: Held,
+) -> Result<Draft<Held>, OutOfMemory>
     requires { Rising (items changes) }
-    ensures { IfOk result (λ later. items later ≡ without_at old (items changes) ++ record { usn = usn; key = key.now } ∷ []) }
+    ensures { IfOk result (λ later. items later ≡ without_at old (items changes) ++ unit ∷ []) }
 {
     match old {
-        None => changes.push(change_at(usn, key)),
-        Some(number) => forget(changes, number)?.push(change_at(usn, key)),
+        None => changes.push(unit),
+        Some(number) => forget(changes, number)?.push(unit),
     }
 }

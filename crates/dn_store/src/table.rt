@@ -8,7 +8,6 @@ ghost use Rattle.dn_store.specs.Value.{fits};
 use crate::changes::run_of;
 use crate::finding::{find_above, find_key};
 use crate::held::Held;
-use crate::unit::Change;
 use crate::writing::{Drafts, take_writes};
 use crate::{Unit, UnitKey, Write};
 use dn_io::{List, OutOfMemory};
@@ -26,8 +25,8 @@ pub struct Table {
     alloc: Global,
     // The units in the order of their keys.
     units: Pages<Held>,
-    // The changes that left them, in the order of their numbers.
-    changes: Pages<Change>,
+    // The same units in the order of their numbers.
+    changes: Pages<Held>,
     top: u64,
 }
 
@@ -171,6 +170,6 @@ impl Table {
         ensures differ { IfOk result (λ run. KeysDiffer (map write_of run.units)) }
         ensures fit { IfOk result (λ run. AllByRecursion (λ write. IsTrue (fits write.value)) (map write_of run.units)) }
     {
-        run_of(self.alloc, usn, room, self.top, &self.units, &self.changes)
+        run_of(self.alloc, usn, room, self.top, &self.changes)
     }
 }

@@ -42,20 +42,6 @@ pub struct Unit {
     pub value: UnitValue,
 }
 
-/// A change by its number, with the key of the unit that it left.
-#[derive(Drop)]
-pub struct Change {
-    pub usn: u64,
-    pub key: UnitKey,
-}
-
-impl Duplicate for Change {
-    fn copy(&self, _alloc: Global) -> Result<Self, OutOfMemory> {
-        let key = self.key;
-        Ok(Change { usn: self.usn, key })
-    }
-}
-
 impl Duplicate for UnitValue {
     fn copy(&self, alloc: Global) -> Result<Self, OutOfMemory> {
         match self {

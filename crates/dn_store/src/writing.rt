@@ -7,25 +7,24 @@ ghost use Rattle.dn_store.specs.Table.{change_limit, numbered, placed, taken};
 use crate::finding::number_with;
 use crate::held::Held;
 use crate::numbers::renumber;
-use crate::unit::{Change, Unit, Write};
+use crate::unit::{Unit, Write};
 use dn_io::{Duplicate, OutOfMemory};
 use dn_pages::{Draft, Place};
 use std::alloc::Global;
 
-// A table that changes: its units in the order of their keys, and their changes in the order of their numbers.
+// A table that changes: its units in the order of their keys, and the same units in the order of their numbers.
 #[derive(Drop)]
 pub struct Drafts {
     pub units: Draft<Held>,
-    pub changes: Draft<Change>,
+    pub changes: Draft<Held>,
 }
 
 // Puts a unit into the place of its key.
 fn put_at(
-    alloc: Global,
     units: Draft<Held>,
     place: Place,
     replaces: bool,
-    unit: Unit,
+    unit: Held,
 ) -> Result<Draft<Held>, OutOfMemory>
     requires at { rank units place ≡ place_among unit.key (items units) }
     requires inside { IsInside units place }
@@ -33,15 +32,14 @@ fn put_at(
     requires there { replaces ≡ is_some (picked unit.key (slice_get (items units) (rank units place))) }
     ensures { IfOk result (λ later. items later ≡ placed unit (items units)) }
 {
-    let held = Held::of(alloc, unit)?;
     if replaces {
-        units.set(place, held)
+        units.set(place, unit)
     } else {
-        units.insert(place, held)
+        units.insert(place, unit)
     }
 }
 
-// Puts a unit into its place, and its change behind all others.
+// Puts a unit into the place of its key, and behind all others by its number.
 fn take_unit(alloc: Global, drafts: Drafts, unit: Unit, top: u64) -> Result<Drafts, OutOfMemory>
     requires next { unit.usn ≡ top + 1 }
     requires kept { IsKept (items drafts.units) (items drafts.changes) top }
@@ -51,8 +49,10 @@ fn take_unit(alloc: Global, drafts: Drafts, unit: Unit, top: u64) -> Result<Draf
     let Drafts { units, changes } = drafts;
     let place = units.place_of(&unit.key);
     let old = number_with(units.item_at(place), &unit.key);
-    let changes = renumber(changes, old, unit.usn, &unit.key)?;
-    let units = put_at(alloc, units, place, old.is_some(), unit)?;
+    let held = Held::of(alloc, unit)?;
+    let again = held.copy(alloc)?;
+    let changes = renumber(changes, old, again)?;
+    let units = put_at(units, place, old.is_some(), held)?;
     Ok(Drafts { units, changes })
 }
 
