@@ -120,7 +120,10 @@ impl<T: Duplicate + Drop> List<T> {
     pub fn from_slice(alloc: Global, items: &[T]) -> Result<Self, OutOfMemory>
         ensures { IfOk result (λ list. list ≡ items.now) }
     {
-        let mut list = List::new(alloc);
+        // Room for these items and for no more, since most lists stay as they are.
+        let mut list = List {
+            items: Vec::with_capacity(alloc, items.len())?,
+        };
         list.extend_copies(alloc, items)?;
         Ok(list)
     }

@@ -10,8 +10,9 @@ use std::marker::Model;
 /// none. It keeps the spelling of its letters; names that differ in case alone are the same (RFC 4343).
 #[derive(Clone, Copy)]
 pub struct Name {
-    wire: [u8; 255],
+    // Before the bytes: with the first of them, it is what a comparison reads.
     len: u8,
+    wire: [u8; 255],
 }
 
 impl Model for Name {

@@ -10,12 +10,12 @@ use crate::names::Names;
 use crate::passes::whole_pass;
 use crate::print::{datagram_line, packet_line};
 use crate::print_reply::reply_text;
-use crate::words::does_nothing;
+use crate::words::work_of;
 use dn_admin::answer_line;
 use dn_io::{List, Moment};
 use dn_name::Name;
 use dn_stamp::ReplicaId;
-use dn_word::{TextError, words_of};
+use dn_word::TextError;
 use dn_world::{World, WorldAnswer, WorldEvent};
 use dn_zone::{AdminCmd, Event};
 use std::alloc::Global;
@@ -272,12 +272,9 @@ impl Script {
         requires { IsValidWorld self.old.world }
         ensures { Steps result self.new (step_text self.old text.now) }
     {
-        let Ok(words) = words_of(alloc, text) else {
-            return Err(Bad::Memory);
-        };
-        if does_nothing(text, &words) {
+        let Some(words) = work_of(alloc, text)? else {
             return Ok(List::new(alloc));
-        }
+        };
         match line_of(alloc, &words) {
             Ok(line) => self.run_line(alloc, line),
             Err(TextError::BadText) => Err(Bad::Line),

@@ -9,9 +9,8 @@ use crate::bad::Bad;
 use crate::lines_run::{LineCommand, run_lines};
 use crate::packing::packed_line;
 use crate::showing::shown_line;
-use crate::words::does_nothing;
+use crate::words::work_of;
 use dn_io::{List, Sink, Source, Status};
-use dn_word::words_of;
 use std::alloc::Global;
 use std::marker::Model;
 
@@ -31,13 +30,10 @@ impl LineCommand for ShowLines {
     ghost gives = { by_itself IsShown };
 
     fn output(&mut self, alloc: Global, text: &[u8]) -> Result<List<u8>, Bad> {
-        let Ok(words) = words_of(alloc, text) else {
-            return Err(Bad::Memory);
-        };
-        if does_nothing(text, &words) {
-            return Ok(List::new(alloc));
+        match work_of(alloc, text)? {
+            Some(words) => shown_line(alloc, &words),
+            None => Ok(List::new(alloc)),
         }
-        shown_line(alloc, &words)
     }
 }
 
@@ -57,13 +53,10 @@ impl LineCommand for PackLines {
     ghost gives = { by_itself IsPacked };
 
     fn output(&mut self, alloc: Global, text: &[u8]) -> Result<List<u8>, Bad> {
-        let Ok(words) = words_of(alloc, text) else {
-            return Err(Bad::Memory);
-        };
-        if does_nothing(text, &words) {
-            return Ok(List::new(alloc));
+        match work_of(alloc, text)? {
+            Some(_) => packed_line(alloc, text),
+            None => Ok(List::new(alloc)),
         }
-        packed_line(alloc, text)
     }
 }
 
