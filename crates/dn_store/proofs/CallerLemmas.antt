@@ -4,10 +4,10 @@ pub use Rattle.dn_store.proofs.AheadLemmas.{AreThere, Here, ahead, ahead_taken, 
 pub use Rattle.dn_store.proofs.CountLemmas.{count_cons, count_mono, count_none, either, none_counted, ones, ones_mono, past}
 pub use Rattle.dn_store.proofs.DataLemmas.{HasOwnData, node_has, rows_at_have, rows_have, units_have}
 pub use Rattle.dn_store.proofs.FoundLemmas.{IsFoundBy, found_all, key_at}
-pub use Rattle.dn_store.proofs.ListLemmas.{all_both, all_filter, all_found, all_join, all_map, all_of, all_passes, all_take, all_then, filter_all, filter_within, sorted_take, take_next, take_over}
+pub use Rattle.dn_store.proofs.ListLemmas.{all_at, all_both, all_filter, all_found, all_join, all_map, all_of, all_passes, all_take, all_then, filter_all, filter_within, sorted_take, take_next, take_over}
 pub use Rattle.dn_store.proofs.LoweredLemmas.{lower_lowered, same_lower}
 pub use Rattle.dn_store.proofs.NodeLemmas.{IsNode, node_ok, node_parts}
-pub use Rattle.dn_store.proofs.OrderLemmas.{IsAfter, differ_map, key_total, less_from, unit_order}
+pub use Rattle.dn_store.proofs.OrderLemmas.{IsAfter, apart_first, differ_map, key_total, less_from, unit_order}
 pub use Rattle.dn_store.proofs.RowLemmas.{AreRows, RowAfter, RowsGrow, grow_sorted, one_soa, row_total, rows_kept, soas_more, sorted_grow}
 pub use Rattle.dn_store.proofs.RunLemmas.{run_differ, run_order, run_room, run_short}
 pub use Rattle.dn_store.proofs.TableLemmas.{table_taken}

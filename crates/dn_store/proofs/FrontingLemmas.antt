@@ -5,7 +5,7 @@ use Rattle.std.proofs.lemmas.Bool.{false≢true}
 use Rattle.std.proofs.lemmas.List.{drop_all, drop_more}
 use Rattle.std.proofs.lemmas.Option.{get_or_from_slice_get, slice_get_within}
 use Rattle.std.proofs.lemmas.Result.{IfOk-weaker}
-use Rattle.std.specs.Prelude.{◌==◌, if◌then◌else◌, not, slice_get, IfOk, Result}
+use Rattle.std.specs.Prelude.{◌==◌, not, slice_get, IfOk, Result}
 use Rattle.dn_pages.specs.Search.{IsCut}
 use Rattle.dn_pages.proofs.CallerLemmas.{cut_place}
 use Rattle.dn_store.specs.declared.table.ChangeRun.{ChangeRun}
@@ -13,7 +13,7 @@ use Rattle.dn_store.specs.declared.unit.Unit as units
 use Rattle.dn_store.specs.Fronts.{IsFront, above, added, run_above}
 use Rattle.dn_store.specs.Numbers.{Rising}
 use Rattle.dn_store.specs.Run.{usn_order}
-use Rattle.dn_store.specs.Table.{by_number, form_size, front_within, last_number, newer, placed_by_number, run_after}
+use Rattle.dn_store.specs.Table.{by_number, form_size, front_within, newer, placed_by_number, run_after, run_among}
 use Rattle.dn_store.proofs.ListLemmas.{over_end}
 use Rattle.dn_store.proofs.NumberingLemmas.{after_rises, drop_place}
 
@@ -107,11 +107,7 @@ above_place usn list at rising cut = ap (λ (k : ℕ). drop k list) (cut_place u
 -- the run of a table's units in the order of their numbers is that of the table
 pub run_by_number : (usn room top : ℕ) (list numbered : List units.Unit) → numbered ≡ by_number list → run_above usn room top numbered ≡ run_after usn room top list
 run_by_number usn room top list numbered is =
-    let all : above usn numbered ≡ newer usn list = ap (above usn) is ∙ filter_sorted usn list in
-    ap
-    (λ (kept : List units.Unit).
-    let front : List units.Unit = front_within room kept in
-    record { to = if length front == length kept then top else last_number usn front; units = front }) all
+    ap (run_among usn room top) (ap (above usn) is ∙ filter_sorted usn list)
 
 -- the same for the result of a call
 pub numbered_run : {E : Type 0} (usn room top : ℕ) (list numbered : List units.Unit) (result : Result ChangeRun E) → numbered ≡ by_number list → IfOk result (λ run. run ≡ run_above usn room top numbered)

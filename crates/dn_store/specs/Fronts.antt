@@ -2,7 +2,7 @@
 use Rattle.std.specs.Prelude.{◌≡◌, ℕ, ◌-◌, Bool, ◌==◌, nat_le, nat_lt, if◌then◌else◌, List, [], ◌∷◌, ◌++◌, filter, length, Option, Some, None}
 use Rattle.dn_store.specs.declared.table.ChangeRun.{ChangeRun}
 use Rattle.dn_store.specs.declared.unit.Unit as units
-use Rattle.dn_store.specs.Table.{form_size, front_within, last_number}
+use Rattle.dn_store.specs.Table.{form_size, front_within, run_among}
 
 -- the units above a number
 abbrev pub above : ℕ → List units.Unit → List units.Unit
@@ -10,10 +10,7 @@ above usn list = filter (λ unit. nat_lt usn unit.usn) list
 
 -- the run of changes above a number, of units that are in the order of their numbers
 abbrev pub run_above : ℕ → ℕ → ℕ → List units.Unit → ChangeRun
-run_above usn room top list =
-    let all = above usn list in
-    let front = front_within room all in
-    record { to = if length front == length all then top else last_number usn front; units = front }
+run_above usn room top list = run_among usn room top (above usn list)
 
 -- a front with one unit more, where there is room for it, and the room that is left then; none where there is too little
 abbrev pub added : units.Unit → ℕ → List units.Unit → List units.Unit × Option ℕ
