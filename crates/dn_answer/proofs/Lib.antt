@@ -1,9 +1,11 @@
+pub mod BelowLemmas
 pub mod CallerLemmas
 pub mod EqualReplies
 pub mod GlueLemmas
+pub mod LookupLemmas
 pub mod NamedLemmas
+pub mod NamesBelow
 pub mod RefusalLemmas
-pub mod RowLemmas
 pub mod SendableReplies
 pub mod SentLemmas
 pub mod ValidRows

@@ -1,5 +1,6 @@
 pub mod Alike
 pub mod Answer
+pub mod Below
 pub mod Glue
 pub mod Rows
 pub mod Sendable

@@ -5,7 +5,8 @@ ghost use Rattle.dn_answer.specs.Glue.{addresses, glue, glue_rr, is_row, names_s
 ghost use Rattle.dn_answer.specs.Answer.{owner_of};
 ghost use Rattle.dn_answer.specs.Glue.Turn.{PutsGlue};
 
-use crate::rows::{Owned, of_name, of_type};
+use crate::lookups::Rows;
+use crate::rows::{Owned, of_type};
 use dn_io::{Duplicate, List, OutOfMemory};
 use dn_message::Rr;
 use dn_name::Name;
@@ -49,10 +50,10 @@ fn server_of(apex: &Name, one: &Owned) -> Option<Name>
 
 // The addresses of a name, A before AAAA.
 #[tactic(auto, unfolding(crate::specs::Glue::addresses))]
-fn addresses(alloc: Global, rows: &[Owned], name: &Name) -> Result<List<Owned>, OutOfMemory>
+fn addresses(alloc: Global, rows: &Rows, name: &Name) -> Result<List<Owned>, OutOfMemory>
     ensures { IfOk result (λ list. list ≡ addresses rows.now name.now) }
 {
-    let named = of_name(alloc, name, rows)?;
+    let named = rows.of_name(alloc, name)?;
     let mut list = of_type(alloc, A, named.as_slice())?;
     let later = of_type(alloc, AAAA, named.as_slice())?;
     list.extend_copies(alloc, later.as_slice())?;
@@ -122,7 +123,7 @@ fn put_server(
     list: &mut List<Rr>,
     put: &mut List<Owned>,
     spelled: &[Name],
-    rows: &[Owned],
+    rows: &Rows,
     server: &Name,
 ) -> Result<(), OutOfMemory>
     ensures list { OnOk result (list.new ≡ list.old ++ map (glue_rr spelled.now server.now) (not_put put.old (addresses rows.now server.now))) }
@@ -140,7 +141,7 @@ fn put_glue(
     list: &mut List<Rr>,
     put: &mut List<Owned>,
     spelled: &[Name],
-    rows: &[Owned],
+    rows: &Rows,
     apex: &Name,
     one: &Owned,
 ) -> Result<(), OutOfMemory>
@@ -159,7 +160,7 @@ fn put_glue(
 pub fn glue(
     alloc: Global,
     spelled: &[Name],
-    rows: &[Owned],
+    rows: &Rows,
     apex: &Name,
     named: &[Owned],
 ) -> Result<List<Rr>, OutOfMemory>

@@ -4,6 +4,7 @@
 
 mod alike;
 mod glue;
+mod lookups;
 mod reply;
 mod replying;
 mod rows;

@@ -2,8 +2,9 @@ ghost use Rattle.std.specs.Prelude.{◌≡◌, ◌-◌, drop, length, map, take,
 ghost use Rattle.dn_answer.specs.Answer.{answer_of, answered_data, refused, reply_of_rows, reply_of_walk, rr_of, serial_of, soa_data};
 
 use crate::glue::{glue, owner_of};
+use crate::lookups::Rows;
 use crate::reply::AnswerValue;
-use crate::rows::{Owned, has_type, rows_of};
+use crate::rows::Owned;
 use crate::size::{behind, fitted};
 use crate::walk::{Walk, walk_from};
 use dn_io::{List, OutOfMemory};
@@ -117,7 +118,7 @@ fn rrs_of(
 #[tactic(auto, unfolding(crate::specs::Answer::reply_of_walk))]
 fn reply_of_walk(
     alloc: Global,
-    rows: &[Owned],
+    rows: &Rows,
     apex: &Name,
     host: &Name,
     serial: u32,
@@ -157,7 +158,7 @@ pub fn refused(alloc: Global) -> AnswerValue
 #[tactic(auto, unfolding(crate::specs::Answer::reply_of_rows))]
 fn reply_of_rows(
     alloc: Global,
-    rows: &[Owned],
+    rows: &Rows,
     apex: &Name,
     serial: u32,
     host: &Name,
@@ -166,7 +167,7 @@ fn reply_of_rows(
 ) -> Result<AnswerValue, OutOfMemory>
     ensures { IfOk result (λ reply. reply ≡ reply_of_rows rows.now apex.now serial host.now name.now qtype) }
 {
-    if qtype == AXFR || !has_type(SOA, apex, rows) {
+    if qtype == AXFR || !rows.has_type(SOA, apex) {
         return Ok(refused(alloc));
     }
     let mut spelled = List::new(alloc);
@@ -199,7 +200,6 @@ pub fn answer(
 ) -> Result<AnswerValue, OutOfMemory>
     ensures { IfOk result (λ reply. reply ≡ answer_of table.now apex.now host.now name.now qtype) }
 {
-    let rows = rows_of(alloc, table)?;
     let serial = serial_of(table.top());
-    reply_of_rows(alloc, rows.as_slice(), apex, serial, host, name, qtype)
+    reply_of_rows(alloc, &Rows::of(table), apex, serial, host, name, qtype)
 }

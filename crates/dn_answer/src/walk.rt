@@ -1,13 +1,14 @@
 ghost use Rattle.std.specs.Prelude.{◌≡◌, ◌<◌, filter, IfOk, IfSome};
 ghost use Rattle.std.specs.List.{list_any};
 ghost use Rattle.dn_name.specs.Name.{is_same};
-ghost use Rattle.dn_answer.specs.Walk.{asked, behind_link, cut, ended_at, is_asked, is_cut, name_exists, link, may_follow, negative, referred, stopped, walk};
+ghost use Rattle.dn_answer.specs.Walk.{asked, behind_link, cut, ended_at, is_asked, is_cut, link, may_follow, negative, referred, stopped, walk};
 ghost use Rattle.dn_rdata.specs.Types.{answerable};
 ghost use Rattle.dn_rdata.specs.Data.{minimum_of};
 ghost use Rattle.dn_answer.specs.Walk.Follow.{next_name};
 ghost use Rattle.dn_answer.specs.Rows.{of_name, of_type};
 
-use crate::rows::{Owned, first_of, has_type, of_name, of_type};
+use crate::lookups::Rows;
+use crate::rows::{Owned, of_type};
 use dn_io::{Duplicate, List, OutOfMemory};
 use dn_message::Rcode;
 use dn_name::Name;
@@ -26,15 +27,15 @@ pub struct Walk {
 }
 
 // Whether a name is that of a delegation.
-fn is_cut(rows: &[Owned], apex: &Name, name: &Name) -> bool
+fn is_cut(rows: &Rows, apex: &Name, name: &Name) -> bool
     ensures { result ≡ is_cut rows.now apex.now name.now }
 {
-    name.is_under(apex) && !name.same(apex) && has_type(NS, name, rows)
+    name.is_under(apex) && !name.same(apex) && rows.has_type(NS, name)
 }
 
 // The name at which a delegation cuts the zone: of those at or above a name and below the apex, the one nearest to
 // the apex that has NS rows.
-fn cut(rows: &[Owned], apex: &Name, name: &Name) -> Option<Name>
+fn cut(rows: &Rows, apex: &Name, name: &Name) -> Option<Name>
     ensures { result ≡ cut rows.now apex.now name.now }
 {
     let parent = name.parent()?;
@@ -50,18 +51,13 @@ fn cut(rows: &[Owned], apex: &Name, name: &Name) -> Option<Name>
 
 // The alias at a name, where a question of the type follows it.
 #[tactic(auto, unfolding(crate::specs::Walk::link))]
-fn link(
-    alloc: Global,
-    rows: &[Owned],
-    qtype: u16,
-    name: &Name,
-) -> Result<Option<Owned>, OutOfMemory>
+fn link(alloc: Global, rows: &Rows, qtype: u16, name: &Name) -> Result<Option<Owned>, OutOfMemory>
     ensures { IfOk result (λ found. found ≡ link rows.now qtype name.now) }
 {
     if qtype == CNAME || qtype == ANY {
         return Ok(None);
     }
-    first_of(alloc, CNAME, name, rows)
+    rows.first_of(alloc, CNAME, name)
 }
 
 // Whether a question of the type is for the row.
@@ -86,39 +82,31 @@ fn asked_among(alloc: Global, qtype: u16, rows: &[Owned]) -> Result<List<Owned>,
 
 // The rows of a name that a question of the type is for.
 #[tactic(auto, unfolding(crate::specs::Walk::asked))]
-fn asked(alloc: Global, rows: &[Owned], qtype: u16, name: &Name) -> Result<List<Owned>, OutOfMemory>
+fn asked(alloc: Global, rows: &Rows, qtype: u16, name: &Name) -> Result<List<Owned>, OutOfMemory>
     ensures { IfOk result (λ found. found ≡ asked rows.now qtype name.now) }
 {
-    let here = of_name(alloc, name, rows)?;
+    let here = rows.of_name(alloc, name)?;
     asked_among(alloc, qtype, here.as_slice())
 }
 
 // The zone's SOA beside a negative answer, with the lesser of its time to live and its minimum (RFC 2308 3).
 #[tactic(auto, using(crate::proofs::WalkLemmas::negative_first), unfolding(crate::specs::Walk::negative))]
-fn negative(alloc: Global, rows: &[Owned], apex: &Name) -> Result<List<Owned>, OutOfMemory>
+fn negative(alloc: Global, rows: &Rows, apex: &Name) -> Result<List<Owned>, OutOfMemory>
     ensures { IfOk result (λ found. found ≡ negative rows.now apex.now) }
 {
     let mut found = List::new(alloc);
-    if let Some(mut one) = first_of(alloc, SOA, apex, rows)? {
+    if let Some(mut one) = rows.first_of(alloc, SOA, apex)? {
         one.row.ttl = one.row.ttl.min(minimum_of(one.row.rdata.as_slice()));
         found.push(one)?;
     }
     Ok(found)
 }
 
-// Whether a name or one below it has a row, of any type.
-#[tactic(auto, unfolding(crate::specs::Walk::name_exists))]
-fn name_exists(rows: &[Owned], name: &Name) -> bool
-    ensures { result ≡ name_exists rows.now name.now }
-{
-    rows.iter().any(|one| one.name.is_under(name))
-}
-
 // The walk that ends at a name that neither a delegation cuts off nor an alias leads on from.
 #[tactic(auto, unfolding(crate::specs::Walk::ended_at))]
 fn ended_at(
     alloc: Global,
-    rows: &[Owned],
+    rows: &Rows,
     apex: &Name,
     qtype: u16,
     spelled: List<Name>,
@@ -136,7 +124,7 @@ fn ended_at(
             spelled,
         });
     }
-    let rcode = if name_exists(rows, name) {
+    let rcode = if rows.has_under(name) {
         Rcode::NoError
     } else {
         Rcode::NxDomain
@@ -151,15 +139,10 @@ fn ended_at(
 }
 
 // The walk that ends at a delegation.
-fn referred(
-    alloc: Global,
-    rows: &[Owned],
-    at: &Name,
-    spelled: List<Name>,
-) -> Result<Walk, OutOfMemory>
+fn referred(alloc: Global, rows: &Rows, at: &Name, spelled: List<Name>) -> Result<Walk, OutOfMemory>
     ensures { IfOk result (λ walked. walked ≡ referred (of_type 2 (of_name at.now rows.now)) spelled) }
 {
-    let here = of_name(alloc, at, rows)?;
+    let here = rows.of_name(alloc, at)?;
     Ok(Walk {
         answer: List::new(alloc),
         authority: of_type(alloc, NS, here.as_slice())?,
@@ -243,7 +226,7 @@ fn behind_link(one: Owned, rest: Walk) -> Result<Walk, OutOfMemory>
 pub fn walk_from(
     alloc: Global,
     links: u8,
-    rows: &[Owned],
+    rows: &Rows,
     apex: &Name,
     qtype: u16,
     mut spelled: List<Name>,

@@ -204,6 +204,39 @@ fn codes_without_answers(rt: HostRuntime) {
     }
 }
 
+/// Names with rows beside and behind those of tombstones.
+const BESIDE: &[(&str, u16, &str)] = &[("deadly.x", A, "1234"), ("b.mixed.x", A, "1234")];
+
+/// The table after a tombstone at each of the names.
+fn put_tombstones(rt: &impl Abort, alloc: Global, before: Table, names: &[&str]) -> Table {
+    let mut table = before;
+    for text in names {
+        table = put_one(rt, alloc, &table, node(rt, text), UnitValue::Tombstone(1));
+    }
+    table
+}
+
+/// The zone x. with tombstones below dead.x. and mixed.x., and a row below the second.
+fn with_tombstones(rt: &impl Abort, alloc: Global) -> Table {
+    let rows = put_rows(rt, alloc, BESIDE);
+    let started = put_row(rt, alloc, &rows, "x", SOA, START);
+    put_tombstones(rt, alloc, started, &["old.dead.x", "a.mixed.x"])
+}
+
+// A name without a node exists where one below it has rows: tombstones don't count, nor do names that begin alike.
+#[test]
+fn names_above_tombstones(rt: HostRuntime) {
+    let alloc = rt.alloc();
+    let table = with_tombstones(&rt, alloc);
+    for (text, qtype, rcode) in [
+        ("mixed.x", A, Rcode::NoError),
+        ("dead.x", A, Rcode::NxDomain),
+        ("a.mixed.x", A, Rcode::NxDomain),
+    ] {
+        check_missing(&rt, alloc, &table, text, qtype, rcode);
+    }
+}
+
 /// The zone refers to two servers with two addresses, behind so many rows of its own.
 fn check_referral(
     rt: &impl Abort,
