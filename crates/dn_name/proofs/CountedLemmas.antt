@@ -1,11 +1,15 @@
 -- A counted name stands at a place once.
-use Rattle.std.proofs.Common.{◌≡◌, ℕ, ◌+◌, ◌≤◌, List, ◌∷◌, ◌++◌, length, drop, Option, Some, sym, ap, ap₂, ◌∙◌, arith, length-append, length-drop}
+use Rattle.std.proofs.Common.{◌≡◌, ℕ, ◌+◌, ◌≤◌, List, ◌∷◌, ◌++◌, length, drop, Option, Some, sym, ap, ap₂, ◌∙◌, arith, drop-drop, length-append, length-drop}
 use Rattle.dn_name.specs.Counted.{AreCounts, Counted}
 use Rattle.dn_name.specs.Name.{Labels, IsName, wire_len, wire_of}
 use Rattle.dn_name.proofs.WireNameLemmas.{length-wire_of}
 
 pairs : {left right : Labels × ℕ} → Some left ≡ Some right → left ≡ right
 pairs same = cc
+
+-- what stands behind both counts
+pub behind_counts : (message : List ℕ) (at len count : ℕ) (rest : List ℕ) → drop at message ≡ len ∷ (count ∷ rest) → drop (at + 2) message ≡ rest
+behind_counts message at len count rest there = sym (drop-drop 2 at message) ∙ ap (drop 2) there
 
 module _ (message : List ℕ) (at len count : ℕ) (rest : List ℕ) (there : drop at message ≡ len ∷ (count ∷ rest)) where
   -- any counted name at the place has these counts, and its bytes begin the rest

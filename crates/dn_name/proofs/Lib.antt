@@ -6,6 +6,7 @@ pub mod LabelTurnLemmas
 pub mod LabelWalkLemmas
 pub mod LowerCaseLemmas
 pub mod OrderLemmas
+pub mod PlainFaultLemmas
 pub mod PointerTurnLemmas
 pub mod PushedLabelLemmas
 pub mod ReadAgainLemmas

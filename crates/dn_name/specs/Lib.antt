@@ -2,6 +2,7 @@ pub mod Counted
 pub mod Exact
 pub mod FirstFault
 pub mod Name
+pub mod PlainFault
 pub mod Reading
 pub mod Spelled
 pub mod Text

@@ -27,7 +27,7 @@ impl Name {
                     check_counts(&name, len, count, at)?;
                     Ok((name, at + 2 + taken))
                 }
-                None => Err(fault_of_plain(bytes, at + 2)),
+                None => Err(Name::fault_of_plain(bytes, at + 2)),
             },
             None => Err(NameError {
                 kind: NameFault::Short,
@@ -83,29 +83,4 @@ fn check_counts(name: &Name, len: u8, count: u8, at: usize) -> Result<(), NameEr
         });
     }
     Ok(())
-}
-
-// What is wrong first with a name without pointers of which none stands at the place. A label with which the name would
-// pass 255 bytes is found out before it is seen to be cut.
-fn fault_of_plain(bytes: &[u8], at: usize) -> NameError {
-    let mut place = at;
-    let mut size = 1;
-    loop {
-        let kind = match bytes.get(place) {
-            Some(&len) if len > 63 => NameFault::LabelTooLong,
-            Some(&len) if size + usize::from(len) + 1 > 255 => NameFault::NameTooLong,
-            Some(&len) => {
-                size += usize::from(len) + 1;
-                place += usize::from(len) + 1;
-                continue;
-            }
-            None => {
-                return NameError {
-                    kind: NameFault::Short,
-                    place: bytes.len(),
-                };
-            }
-        };
-        return NameError { kind, place };
-    }
 }

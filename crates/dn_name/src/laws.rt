@@ -1,6 +1,7 @@
 //! Laws of how names are spelled in a message (RFC 1035 4.1.4).
 
 ghost use Rattle.dn_name.specs.FirstFault.{FirstFaultIsOne};
+ghost use Rattle.dn_name.specs.PlainFault.{PlainFaultIsOne};
 ghost use Rattle.dn_name.specs.Spelled.{IsSpelledOnce, PlainIsSpelled, PointersFall, WireIsSpelled};
 
 /// At a place of a message one name is spelled at most, and one place is behind it.
@@ -22,4 +23,9 @@ pub fn plain_names_are_spelled()
 /// What is wrong first with a name has one kind and one place.
 pub fn first_faults_are_one()
     ensures { FirstFaultIsOne }
+{}
+
+/// What is wrong first with a name without pointers has one kind and one place.
+pub fn plain_faults_are_one()
+    ensures { PlainFaultIsOne }
 {}

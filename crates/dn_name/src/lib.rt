@@ -14,7 +14,8 @@ mod wire;
 
 pub use error::{NameError, NameFault, NoRoom};
 pub use laws::{
-    first_faults_are_one, names_are_spelled_once, plain_names_are_spelled, pointers_fall,
+    first_faults_are_one, names_are_spelled_once, plain_faults_are_one, plain_names_are_spelled,
+    pointers_fall,
 };
 pub use name::Name;
 pub use text::text_is_read_back;

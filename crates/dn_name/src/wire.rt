@@ -1,13 +1,14 @@
 //! Names as bytes on the wire.
 
-ghost use Rattle.std.specs.Prelude.{◌≡◌, ◌↔◌, ℕ, ◌+◌, ◌<◌, ◌≤◌, List, ◌++◌, length, take, drop, option_map, Some, IfOk, IfSome, IsOk, OnErr};
+ghost use Rattle.std.specs.Prelude.{◌≡◌, ◌↔◌, ℕ, ◌+◌, ◌-◌, ◌<◌, ◌≤◌, List, ◌++◌, length, take, drop, option_map, Some, IfOk, IfSome, IsOk, OnErr};
 ghost use Rattle.std.specs.List.{AllByRecursion};
 ghost use Rattle.dn_name.specs.Name.{Labels, IsLabel, IsName, wire_len, wire_of};
+ghost use Rattle.dn_name.specs.PlainFault.{IsPlainFault, NoneStands, PlainFault};
 ghost use Rattle.dn_name.specs.Spelled.{Spelled};
 ghost use Rattle.dn_name.specs.Walk.{first_label, first_of};
 ghost use Rattle.dn_name.specs.Wire.{labels_at, plain_name};
 
-use crate::error::NoRoom;
+use crate::error::{NameError, NameFault, NoRoom};
 use crate::name::Name;
 
 impl Name {
@@ -43,6 +44,49 @@ impl Name {
             return None;
         }
         Some((Name::from_wire(&bytes[..len]), len))
+    }
+
+    /// What is wrong first with the name without pointers at a place where none stands. A length byte of 64 or more is that
+    /// of a label that is too long, also where it would begin a pointer; a label with which the name would pass 255 bytes is
+    /// found out before it is seen to be cut (RFC 1035 2.3.4 and 3.1).
+    pub fn fault_of_plain(bytes: &[u8], at: usize) -> NameError
+        requires at { at ≤ length bytes.now }
+        requires none { (name : Labels) (rest : List ℕ) → IsName name → drop at bytes.now ≡ wire_of name ++ rest → ⊥ }
+        ensures { IsPlainFault bytes.now at result.kind result.place }
+    {
+        fault_behind(bytes, at, 1)
+    }
+}
+
+// What is wrong first behind labels that take so many bytes with a zero byte. Each label makes them more, so there are at most
+// 127 calls.
+fn fault_behind(bytes: &[u8], at: usize, size: usize) -> NameError
+    requires at { at ≤ length bytes.now }
+    requires size { size ≤ 255 }
+    requires none { NoneStands bytes.now at size }
+    ensures { PlainFault bytes.now at size result.kind result.place }
+{
+    let (_, rest) = bytes.split_at(at);
+    let short = NameError {
+        kind: NameFault::Short,
+        place: bytes.len(),
+    };
+    match rest.split_first() {
+        None => short,
+        Some((&0, _)) => unreachable!(),
+        Some((&len, _)) if len > 63 => NameError {
+            kind: NameFault::LabelTooLong,
+            place: at,
+        },
+        Some((&len, _)) if size + usize::from(len) + 1 > 255 => NameError {
+            kind: NameFault::NameTooLong,
+            place: at,
+        },
+        Some((&len, rest)) if rest.len() < usize::from(len) => short,
+        Some((&len, _)) => {
+            let taken = 1 + usize::from(len);
+            fault_behind(bytes, at + taken, size + taken)
+        }
     }
 }
 

@@ -1,7 +1,7 @@
 use Rattle.std.proofs.Common.{sym, ◌∙◌, refl}
 use Rattle.std.proofs.lemmas.Bool.{false≢true}
 use Rattle.std.proofs.lemmas.Result.{err_from_is_err_and}
-use Rattle.dn_name.proofs.CountedLemmas.{counted_found, counted_other, counted_within}
+use Rattle.dn_name.proofs.CountedLemmas.{behind_counts, counted_found, counted_other, counted_within}
 use Rattle.dn_name.proofs.name.Name.read_count.Goals as goal
 
 pub returns-in_err-check_counts-in-Some-read_plain-clause-exact : goal.returns-in_err-check_counts-in-Some-read_plain-clause-exact
@@ -23,3 +23,10 @@ returns-in_ok-check_counts-in-Some-read_plain-clause-within c =
     let here = sym c.split_at.ensures.back ∙ c.in-Some.ensures.found in
     counted_within c.args.bytes.now c.args.at _ _ _ here _ c.in-Some-read_plain.ensures.again _ _ refl
     _ c.in_ok-check_counts-in-Some-read_plain.ensures.named c.in-Some-read_plain.ensures.spelled c.requires
+
+pub fault_of_plain-requires-clause-none : goal.fault_of_plain-requires-clause-none
+fault_of_plain-requires-clause-none c = λ name rest named stands.
+    let there = sym c.split_at.ensures.back ∙ c.in-Some.ensures.found in
+    let spelled = sym (behind_counts c.args.bytes.now c.args.at c.in-Some.len c.in-Some.count c.in-Some.rest.now there) ∙ stands in
+    let none = c.in-None-read_plain.ensures.again name rest named spelled in
+    absurd (cc)
