@@ -1,6 +1,6 @@
 //! What a replica replies to datagrams.
 
-ghost use Rattle.std.specs.Prelude.{◌≡◌, ◌<◌, ◌≤◌, Some, length, take, IfOk, option_copied};
+ghost use Rattle.std.specs.Prelude.{◌≡◌, ◌<◌, ◌≤◌, Some, length, take, drop, IfOk, OnErr, option_copied};
 ghost use Rattle.dn_message.specs.QueryOf.{query_of};
 ghost use Rattle.dn_name.specs.Name.{IsName};
 ghost use Rattle.dn_rdata.specs.Types.{IN};
@@ -42,6 +42,8 @@ fn zone_reply(
     ensures read { IfOk result (λ len.
         ReadFrom request.now query.now (take len out.new) (Some zone.now)) }
     ensures within { IfOk result (λ len. len ≤ length out.new) }
+    ensures rest { IfOk result (λ len. drop len out.new ≡ drop len out.old) }
+    ensures kept { OnErr result (out.new ≡ out.old) }
 {
     let value = answer(
         alloc,
@@ -97,6 +99,8 @@ impl World {
         ensures bytes { IfOk result (λ len. take len out.new ≡ bytes_from request.now query.now (reached self.now at query.now)) }
         ensures read { IfOk result (λ len. ReadFrom request.now query.now (take len out.new) (reached self.now at query.now)) }
         ensures within { IfOk result (λ len. len ≤ length out.new) }
+        ensures rest { IfOk result (λ len. drop len out.new ≡ drop len out.old) }
+        ensures kept { OnErr result (out.new ≡ out.old) }
     {
         match self.reached(at, query) {
             Some(zone) => zone_reply(alloc, zone, query, request, out),
@@ -118,6 +122,8 @@ impl World {
         ensures bytes { IfOk result (λ len. take len out.new ≡ bytes_to_query self.now at request.now (query_of request.now)) }
         ensures read { IfOk result (λ len. ReadByQuery self.now at request.now (take len out.new) (query_of request.now)) }
         ensures within { IfOk result (λ len. len ≤ length out.new) }
+        ensures rest { IfOk result (λ len. drop len out.new ≡ drop len out.old) }
+        ensures kept { OnErr result (out.new ≡ out.old) }
     {
         match read_query(request) {
             Ok(query) => self.reply_to_query(alloc, at, &query, request, out),
@@ -135,10 +141,10 @@ impl World {
     /// - A query gets REFUSED that is signed, is of another class than IN, is for a transfer, or whose name is in no zone of the
     ///   replica; else it gets the reply of the zone with the longest apex above its name.
     ///
-    /// The world stays as it is.
+    /// The world stays as it is, and so do the buffer's bytes behind the reply.
     ///
     /// # Errors
-    /// `OutOfMemory`.
+    /// `OutOfMemory`. The whole buffer is then as before.
     #[tactic(auto, unfolding(crate::specs::Datagram::reply_to))]
     pub fn datagram(
         &mut self,
@@ -154,6 +160,8 @@ impl World {
         ensures bytes { IfOk result (λ len. take len out.new ≡ reply_to self.old at bytes.now) }
         ensures read { IfOk result (λ len. IsReadRightly self.old at bytes.now (take len out.new)) }
         ensures within { IfOk result (λ len. len ≤ length out.new) }
+        ensures rest { IfOk result (λ len. drop len out.new ≡ drop len out.old) }
+        ensures kept { OnErr result (out.new ≡ out.old) }
         ensures stays { self.new ≡ self.old }
     {
         match kind_of(bytes) {
