@@ -1,3 +1,4 @@
+pub mod AlikeReplies
 pub mod BelowLemmas
 pub mod CallerLemmas
 pub mod EqualReplies

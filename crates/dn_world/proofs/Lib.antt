@@ -1,3 +1,4 @@
+pub mod AlikeReplies
 pub mod CallerLemmas
 pub mod DatagramLemmas
 pub mod EveryZone

@@ -8,6 +8,7 @@ ghost use Rattle.dn_world.specs.declared.event.WorldEvent.{WorldEvent};
 ghost use Rattle.dn_world.specs.declared.world.World.{World};
 
 use dn_answer::{answers_are_sendable, equal_replicas_answer_alike};
+use dn_message::replies_are_spelled_once;
 
 /// The law that proper events, in any order, run to a valid world: each host is a name, each zone is valid and so is each
 /// packet that was sent. It stands in the contract, and nothing runs.
@@ -16,12 +17,14 @@ pub fn worlds_stay_valid()
 {}
 
 /// The law that in the world behind any proper events two replicas whose units of a zone are equal by key, stamp and value
-/// give the same reply to each question, save for the primary server and the serial of an SOA. It stands in the contract,
-/// and nothing is changed.
+/// reply to the bytes of each query in bytes that are read as the same reply, number, RD, question, opcode, flags and all three
+/// sections, save for the primary server and the serial of an SOA. It stands in the contract, and nothing is changed.
 pub fn replicas_answer_alike()
     ensures { (list : List WorldEvent) → AreProper list → AnswersAlike (wrun list) }
 {
+    answers_are_sendable();
     equal_replicas_answer_alike();
+    replies_are_spelled_once();
     worlds_stay_valid();
 }
 
