@@ -17,7 +17,7 @@ use Rattle.dn_script.specs.declared.line.ScriptLine.TheVariants as lines
 use Rattle.dn_script.specs.declared.script.Script.{Script}
 use Rattle.dn_script.specs.Passes.{pass_events, whole_pass}
 use Rattle.dn_script.specs.Play.{Step, after_event, besides, events_of, output_of, replica_number, run_events, run_line}
-use Rattle.dn_script.specs.Play.Stepped.{Gives, Steps}
+use Rattle.dn_script.specs.Play.Stepped.{GivesOrLacks, Steps}
 use Rattle.dn_script.specs.Print.{datagram_text}
 use Rattle.dn_script.specs.PrintReply.{reply_text}
 use Rattle.dn_script.proofs.PassRuns.{whole_pass_runs}
@@ -36,14 +36,14 @@ pass_line script replica apex at is =
     (the_same (after_event script (run_from (script.world, Made) (pass_events script.world at apex script.moment)))
     ∙ ap (after_event script) (sym (whole_pass_runs script.world at apex script.moment Made)))
 
-told : (result : Result (List ℕ) Bad) (script : Script) (after : World × WorldAnswer) → Gives result (output_of after.1) → Steps result (record script { world = after.0 }) (after_event script after)
+told : (result : Result (List ℕ) Bad) (script : Script) (after : World × WorldAnswer) → GivesOrLacks result (output_of after.1) → Steps result (record script { world = after.0 }) (after_event script after)
 told (Ok output) script after gives = rw gives refl
 told (Err bad.Line) script after gives = rw gives refl
 told (Err bad.Memory) script after gives = tt
 
 -- a pass that was run and whose answer was told
 pub pass_steps : (script : Script) (replica : List ℕ) (apex : Labels) (at : ℕ) (after : World × WorldAnswer) (result : Result (List ℕ) Bad) → replica_number script replica ≡ Some at
-    → whole_pass script.world at apex script.moment ≡ after → Gives result (output_of after.1)
+    → whole_pass script.world at apex script.moment ≡ after → GivesOrLacks result (output_of after.1)
     → Steps result (record script { world = after.0 }) (run_line script (lines.Pass replica apex))
 pass_steps script replica apex at after result its_number ran gives =
     subst (Steps result (record script { world = after.0 })) (sym (pass_line script replica apex at its_number ∙ ap (after_event script) ran)) (told result script after gives)

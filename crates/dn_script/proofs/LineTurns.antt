@@ -8,10 +8,10 @@ use Rattle.dn_io.specs.declared.line.LineError.TheVariants as errors
 use Rattle.dn_io.specs.declared.status.Status.{Status}
 use Rattle.dn_io.specs.declared.status.Status.TheVariants.{Done, BadLine, Usage, ReadFault, WriteFault, OutOfMemory, TooLong, LinkFault}
 use Rattle.dn_io.specs.Lines.{Held, RawLine, ReadsLine, is_overlong, lines_of, size_of, text_of}
-use Rattle.dn_io.specs.Outside.{AppendsFront, Told}
+use Rattle.dn_io.specs.Outside.{AppendsFront, WhereTold}
 use Rattle.dn_script.specs.Play.{AtEnd, Bad, Ending, Long}
 use Rattle.dn_script.specs.Said.{EndedFrom, GivesIn, IsFrontWritten, IsSaid, IsWritten}
-use Rattle.dn_script.specs.Said.Turns.{EndedAhead, GivesText, GoesOn, Run, Stops, Turns, status_of}
+use Rattle.dn_script.specs.Said.Turns.{EndedAhead, GivesText, GoesOn, RunEnds, Stops, Turns, status_of}
 use Rattle.dn_script.proofs.SinkLemmas.{appends-then, front-more, front-none, front-then, nothing_more, told_map, told_then}
 
 -- ---- a line that gave its output
@@ -91,47 +91,47 @@ module _ {State : Type 0} (Line : GivesIn State) (state : State) (number : ℕ) 
 
     module _ (s0 s1 w0 w1 : Option (List ℕ)) where
       -- a turn after this answer of the reader
-      turned : (read : Result ReadLine LineError) (result : Result Bool Status) (Rest : List ℕ → Run)
+      turned : (read : Result ReadLine LineError) (result : Result Bool Status) (Rest : List ℕ → RunEnds)
           → ((before now : List ℕ) → ReadsLine old before read new now → Turns result (EndedAhead Line state number old before) (Rest now) now w0 w1)
-          → Told s0 s1 (λ before now. ReadsLine old before read new now) → Told s0 s1 (λ before now. Turns result (EndedAhead Line state number old before) (Rest now) now w0 w1)
+          → WhereTold s0 s1 (λ before now. ReadsLine old before read new now) → WhereTold s0 s1 (λ before now. Turns result (EndedAhead Line state number old before) (Rest now) now w0 w1)
       turned read result Rest =
           told_map s0 s1 (λ before now. ReadsLine old before read new now) (λ before now. Turns result (EndedAhead Line state number old before) (Rest now) now w0 w1)
 
-      pub turn_done : (after : State) (text : List ℕ) → Told s0 s1 (λ before now. ReadsLine old before (Ok (Text text)) new now) → GivesText (Ok tt) number (Line state text) after w0 w1
-          → Told s0 s1 (λ before now. Turns (Ok true) (EndedAhead Line state number old before) (EndedAhead Line after (number + 1) new now) now w0 w1)
+      pub turn_done : (after : State) (text : List ℕ) → WhereTold s0 s1 (λ before now. ReadsLine old before (Ok (Text text)) new now) → GivesText (Ok tt) number (Line state text) after w0 w1
+          → WhereTold s0 s1 (λ before now. Turns (Ok true) (EndedAhead Line state number old before) (EndedAhead Line after (number + 1) new now) now w0 w1)
       turn_done after text read gave =
           turned (Ok (Text text)) (Ok true) (EndedAhead Line after (number + 1) new) (λ before now line. goes_on_read before now text after w0 w1 line gave) read
 
-      pub turn_stops : (text : List ℕ) (status : Status) (Rest : List ℕ → Run) → Told s0 s1 (λ before now. ReadsLine old before (Ok (Text text)) new now) → Stops status number (Line state text) w0 w1
-          → Told s0 s1 (λ before now. Turns (Err status) (EndedAhead Line state number old before) (Rest now) now w0 w1)
+      pub turn_stops : (text : List ℕ) (status : Status) (Rest : List ℕ → RunEnds) → WhereTold s0 s1 (λ before now. ReadsLine old before (Ok (Text text)) new now) → Stops status number (Line state text) w0 w1
+          → WhereTold s0 s1 (λ before now. Turns (Err status) (EndedAhead Line state number old before) (Rest now) now w0 w1)
       turn_stops text status Rest read stops =
           turned (Ok (Text text)) (Err status) Rest (λ before now line. stops_read before now text status w0 w1 line stops) read
 
-    pub turn_ends : (s0 s1 w : Option (List ℕ)) (Rest : List ℕ → Run) → Told s0 s1 (λ before now. ReadsLine old before (Ok End) new now)
-        → Told s0 s1 (λ before now. Turns (Ok false) (EndedAhead Line state number old before) (Rest now) now w w)
+    pub turn_ends : (s0 s1 w : Option (List ℕ)) (Rest : List ℕ → RunEnds) → WhereTold s0 s1 (λ before now. ReadsLine old before (Ok End) new now)
+        → WhereTold s0 s1 (λ before now. Turns (Ok false) (EndedAhead Line state number old before) (Rest now) now w w)
     turn_ends s0 s1 w Rest read =
         turned s0 s1 w w (Ok End) (Ok false) Rest (λ before now ends. end_read before now w ends) read
 
-    pub turn_fails : (s0 s1 w : Option (List ℕ)) (error : LineError) (Rest : List ℕ → Run) → Told s0 s1 (λ before now. ReadsLine old before (Err error) new now)
-        → Told s0 s1 (λ before now. Turns (Err (status_of error)) (EndedAhead Line state number old before) (Rest now) now w w)
+    pub turn_fails : (s0 s1 w : Option (List ℕ)) (error : LineError) (Rest : List ℕ → RunEnds) → WhereTold s0 s1 (λ before now. ReadsLine old before (Err error) new now)
+        → WhereTold s0 s1 (λ before now. Turns (Err (status_of error)) (EndedAhead Line state number old before) (Rest now) now w w)
     turn_fails s0 s1 w error Rest read =
         turned s0 s1 w w (Err error) (Err (status_of error)) Rest (λ before now fails. fails_read before now w error fails) read
 
 -- ---- all turns
 
 -- the turns so far, and the last
-pub turns_end : (s0 s1 s2 w0 w1 w2 : Option (List ℕ)) (status : Status) (Whole Mid : List ℕ → Run)
-    → Told s0 s1 (λ before now. GoesOn (Whole before) w0 (Mid now) w1)
-    → Told s1 s2 (λ before now. Mid before status now w1 w2)
-    → Told s0 s2 (λ before now. Whole before status now w0 w2)
+pub turns_end : (s0 s1 s2 w0 w1 w2 : Option (List ℕ)) (status : Status) (Whole Mid : List ℕ → RunEnds)
+    → WhereTold s0 s1 (λ before now. GoesOn (Whole before) w0 (Mid now) w1)
+    → WhereTold s1 s2 (λ before now. Mid before status now w1 w2)
+    → WhereTold s0 s2 (λ before now. Whole before status now w0 w2)
 turns_end s0 s1 s2 w0 w1 w2 status Whole Mid so_far last =
     told_then s0 s1 s2 (λ before now. GoesOn (Whole before) w0 (Mid now) w1) (λ before now. Mid before status now w1 w2) (λ before now. Whole before status now w0 w2)
     (λ before between now goes ended. goes status now w2 ended) so_far last
 
 -- a whole input, read through a new buffer
 pub run_ended : {State : Type 0} (Line : GivesIn State) (state : State) (s0 s1 w0 w1 : Option (List ℕ)) (lines : Held) (status : Status) → lines ≡ (record { bytes = []; taken = 0; kept = None })
-    → Told s0 s1 (λ before now. EndedAhead Line state 1 lines before status now w0 w1)
-    → Told s0 s1 (λ before now. EndedFrom Line state 1 0 (lines_of before) status now w0 w1)
+    → WhereTold s0 s1 (λ before now. EndedAhead Line state 1 lines before status now w0 w1)
+    → WhereTold s0 s1 (λ before now. EndedFrom Line state 1 0 (lines_of before) status now w0 w1)
 run_ended Line state s0 s1 w0 w1 lines status fresh read =
     told_map s0 s1 (λ before now. EndedAhead Line state 1 lines before status now w0 w1) (λ before now. EndedFrom Line state 1 0 (lines_of before) status now w0 w1)
     (λ before now ended. subst (λ (held : Held). EndedAhead Line state 1 held before status now w0 w1) fresh ended) read

@@ -4,7 +4,7 @@ use Rattle.std.specs.Io.KnownBytes.{Appends}
 use Rattle.dn_io.specs.declared.status.Status.{Status}
 use Rattle.dn_io.specs.declared.status.Status.TheVariants.{Done, BadLine, Usage, ReadFault, WriteFault, OutOfMemory, TooLong, LinkFault}
 use Rattle.dn_io.specs.Lines.{RawLine, lines_of, size_of}
-use Rattle.dn_io.specs.Outside.{AppendsFront, Told}
+use Rattle.dn_io.specs.Outside.{AppendsFront, WhereTold}
 use Rattle.dn_script.specs.declared.script.Script.{Script}
 use Rattle.dn_script.specs.Play.{AtEnd, Bad, Ended, Ending, Long, opening, play, play_lines}
 use Rattle.dn_script.specs.Play.Stepped.{Replays}
@@ -59,8 +59,8 @@ module _ (lines : List RawLine) (script : Script) (number at : ℕ) (before now 
 
 -- a run over a whole script is its play
 pub replay_ended : (s0 s1 w0 w1 : Option (List ℕ)) (script : Script) (status : Status) → script ≡ opening
-    → Told s0 s1 (λ before now. EndedFrom Replays script 1 0 (lines_of before) status now w0 w1)
-    → Told s0 s1 (λ before now. Ended (play before) status now w0 w1)
+    → WhereTold s0 s1 (λ before now. EndedFrom Replays script 1 0 (lines_of before) status now w0 w1)
+    → WhereTold s0 s1 (λ before now. Ended (play before) status now w0 w1)
 unfolding play
 replay_ended s0 s1 w0 w1 script status start read =
     told_map s0 s1 (λ before now. EndedFrom Replays script 1 0 (lines_of before) status now w0 w1) (λ before now. Ended (play before) status now w0 w1)

@@ -157,18 +157,18 @@ proper_line (verb ∷ words) =
 
 -- ---- events
 
-abbrev Given : Option (List WorldEvent) → Type 0
-Given found = AreProper (events_or_none found)
+abbrev AreProperOrNone : Option (List WorldEvent) → Type 0
+AreProperOrNone found = AreProper (events_or_none found)
 
-found_proper : (found : Option ℕ) (go_on : ℕ → Option (List WorldEvent)) → ((at : ℕ) → Given (go_on at)) → Given (found >>= go_on)
+found_proper : (found : Option ℕ) (go_on : ℕ → Option (List WorldEvent)) → ((at : ℕ) → AreProperOrNone (go_on at)) → AreProperOrNone (found >>= go_on)
 found_proper None go_on proper = tt
 found_proper (Some at) go_on proper = proper at
 
-new_proper : (fresh : Bool) (events : List WorldEvent) → AreProper events → Given (if fresh then Some events else None)
+new_proper : (fresh : Bool) (events : List WorldEvent) → AreProper events → AreProperOrNone (if fresh then Some events else None)
 new_proper true events proper = proper
 new_proper false events proper = tt
 
-line_proper : (script : Script) (line : ScriptLine) → IsProperLine line → Given (events_of script line)
+line_proper : (script : Script) (line : ScriptLine) → IsProperLine line → AreProperOrNone (events_of script line)
 unfolding events_of
 line_proper script (lines.Replica name id host) proper = new_proper (is_new_name script name) (Replica id host ∷ []) (proper, tt)
 line_proper script (lines.Create replica apex mailbox) proper = found_proper (replica_number script replica) _ (λ at. (proper, tt))

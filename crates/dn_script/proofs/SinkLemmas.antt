@@ -2,7 +2,7 @@
 use Rattle.std.proofs.Common.{ℕ, List, [], ◌++◌, Option, Some, None, refl, sym, ap, ◌∙◌, append_assoc}
 use Rattle.std.proofs.lemmas.List.{append-nil}
 use Rattle.std.specs.Io.KnownBytes.{Appends}
-use Rattle.dn_io.specs.Outside.{AppendsFront, Told}
+use Rattle.dn_io.specs.Outside.{AppendsFront, WhereTold}
 
 -- ---- what a sink holds
 
@@ -32,12 +32,12 @@ front-none known bytes = ([], bytes, refl, nothing_more known)
 
 -- ---- where a source tells
 
-pub told_map : (before now : Option (List ℕ)) (P Q : List ℕ → List ℕ → Type 0) → ((x y : List ℕ) → P x y → Q x y) → Told before now P → Told before now Q
+pub told_map : (before now : Option (List ℕ)) (P Q : List ℕ → List ℕ → Type 0) → ((x y : List ℕ) → P x y → Q x y) → WhereTold before now P → WhereTold before now Q
 told_map None now P Q f t = tt
 told_map (Some x) None P Q f t = absurd t
 told_map (Some x) (Some y) P Q f t = f x y t
 
-pub told_then : (s0 s1 s2 : Option (List ℕ)) (P Q R : List ℕ → List ℕ → Type 0) → ((x y z : List ℕ) → P x y → Q y z → R x z) → Told s0 s1 P → Told s1 s2 Q → Told s0 s2 R
+pub told_then : (s0 s1 s2 : Option (List ℕ)) (P Q R : List ℕ → List ℕ → Type 0) → ((x y z : List ℕ) → P x y → Q y z → R x z) → WhereTold s0 s1 P → WhereTold s1 s2 Q → WhereTold s0 s2 R
 told_then None s1 s2 P Q R f p q = tt
 told_then (Some x) None s2 P Q R f p q = absurd p
 told_then (Some x) (Some y) None P Q R f p q = absurd q

@@ -2,7 +2,7 @@
 
 ghost use Rattle.std.specs.Prelude.{◌≡◌, ◌≢◌, ◌+◌, ◌≤◌, None, IfOk, IsErrOf, OnOk};
 ghost use Rattle.dn_io.specs.Lines.{lines_of};
-ghost use Rattle.dn_io.specs.Outside.{Rose, Told};
+ghost use Rattle.dn_io.specs.Outside.{Rose, WhereTold};
 ghost use Rattle.dn_script.specs.Said.{EndedFrom, GivesIn};
 ghost use Rattle.dn_script.specs.Said.Turns.{Advanced, Answers, EndedAhead, GivesText, Turns, last_status, status_of};
 
@@ -74,7 +74,7 @@ fn turn<C: LineCommand, S: Source, K: Sink>(
 ) -> Result<bool, Status>
     requires kept { lines.old.kept ≡ None }
     requires ready { C.ready command.old }
-    ensures turns { Told (S.left source.old) (S.left source.new) (λ before now.
+    ensures turns { WhereTold (S.left source.old) (S.left source.new) (λ before now.
         Turns result (EndedAhead C.gives command.old number lines.old before) (EndedAhead C.gives command.new (number + 1) lines.new now)
         now (K.written sink.old) (K.written sink.new)) }
     ensures stays { OnOk result (C.ready command.new) }
@@ -107,7 +107,7 @@ fn all_lines<C: LineCommand, S: Source, K: Sink>(
     requires kept { lines.old.kept ≡ None }
     requires taken { lines.old.taken ≡ 0 }
     requires ready { C.ready command.old }
-    ensures ended { Told (S.left source.old) (S.left source.new) (λ before now.
+    ensures ended { WhereTold (S.left source.old) (S.left source.new) (λ before now.
         EndedAhead C.gives command.old 1 lines.old before (last_status result) now (K.written sink.old) (K.written sink.new)) }
     ensures read { IsErrOf result Status.ReadFault → Rose (S.faults source.old) (S.faults source.new) }
     ensures write { IsErrOf result Status.WriteFault → Rose (K.faults sink.old) (K.faults sink.new) }
@@ -132,7 +132,7 @@ pub fn run_lines<C: LineCommand, S: Source, K: Sink>(
 ) -> Status
     requires { C.ready command.old }
     // Where the source tells, what was written is what its lines give, by how it ended.
-    ensures ended { Told (S.left source.old) (S.left source.new) (λ before now.
+    ensures ended { WhereTold (S.left source.old) (S.left source.new) (λ before now.
         EndedFrom C.gives command.old 1 0 (lines_of before) result now (K.written sink.old) (K.written sink.new)) }
     ensures read { result ≡ Status.ReadFault → Rose (S.faults source.old) (S.faults source.new) }
     ensures write { result ≡ Status.WriteFault → Rose (K.faults sink.old) (K.faults sink.new) }

@@ -1,7 +1,7 @@
 ghost use Rattle.std.specs.Prelude.{◌≡◌, [], ◌∷◌};
 ghost use Rattle.dn_script.specs.Play.{opening, output_of, replica_number, run_events, run_line, step_text};
 ghost use Rattle.dn_world.specs.Runs.{IsValidWorld};
-ghost use Rattle.dn_script.specs.Play.Stepped.{Gives, GivesOrRefuses, Steps};
+ghost use Rattle.dn_script.specs.Play.Stepped.{GivesOrLacks, GivesOrRefuses, Steps};
 
 use crate::asking::{value_in, write_question};
 use crate::bad::Bad;
@@ -31,7 +31,7 @@ pub struct Script {
 // The line of output of an answer.
 #[tactic(auto, unfolding(crate::specs::Play::output_of))]
 fn output_of(alloc: Global, answer: WorldAnswer) -> Result<List<u8>, Bad>
-    ensures { Gives result (output_of answer) }
+    ensures { GivesOrLacks result (output_of answer) }
 {
     match answer {
         WorldAnswer::Made => Ok(List::new(alloc)),

@@ -1,7 +1,7 @@
 //! `show` and `pack`: each line of an input gives its output by itself.
 
 ghost use Rattle.std.specs.Prelude.{◌≡◌, ◌≢◌, ◌≤◌, ⊤};
-ghost use Rattle.dn_io.specs.Outside.{Rose, Told};
+ghost use Rattle.dn_io.specs.Outside.{Rose, WhereTold};
 ghost use Rattle.dn_script.specs.Said.{EndedLines, by_itself};
 ghost use Rattle.dn_script.specs.Values.{IsPacked, IsShown};
 
@@ -64,7 +64,7 @@ impl LineCommand for PackLines {
 /// the sink the text of the value that the bytes of each are, or of what is wrong first with them.
 pub fn show<S: Source, K: Sink>(alloc: Global, source: &mut S, sink: &mut K) -> Status
     // Where the source tells, what was written is what its lines give, by how it ended.
-    ensures shown { Told (S.left source.old) (S.left source.new) (λ before now.
+    ensures shown { WhereTold (S.left source.old) (S.left source.new) (λ before now.
         EndedLines IsShown before result now (K.written sink.old) (K.written sink.new)) }
     ensures read { result ≡ Status.ReadFault → Rose (S.faults source.old) (S.faults source.new) }
     ensures write { result ≡ Status.WriteFault → Rose (K.faults sink.old) (K.faults sink.new) }
@@ -80,7 +80,7 @@ pub fn show<S: Source, K: Sink>(alloc: Global, source: &mut S, sink: &mut K) -> 
 /// a line `record HEX` or `property HEX` with the bytes of each.
 pub fn pack<S: Source, K: Sink>(alloc: Global, source: &mut S, sink: &mut K) -> Status
     // Where the source tells, what was written is what its lines give, by how it ended.
-    ensures packed { Told (S.left source.old) (S.left source.new) (λ before now.
+    ensures packed { WhereTold (S.left source.old) (S.left source.new) (λ before now.
         EndedLines IsPacked before result now (K.written sink.old) (K.written sink.new)) }
     ensures read { result ≡ Status.ReadFault → Rose (S.faults source.old) (S.faults source.new) }
     ensures write { result ≡ Status.WriteFault → Rose (K.faults sink.old) (K.faults sink.new) }

@@ -12,7 +12,7 @@ use Rattle.dn_zone.specs.declared.event.Answer.{Answer}
 use Rattle.dn_zone.specs.declared.event.Event.{Event}
 use Rattle.dn_zone.specs.declared.event.Event.TheVariants as zone_events
 use Rattle.dn_zone.specs.declared.zone.Zone.{Zone}
-use Rattle.dn_zone.specs.Creation.{created, joined}
+use Rattle.dn_zone.specs.Creation.{created, joined_zone}
 use Rattle.dn_zone.specs.Merge.{changes_of, pull_of}
 use Rattle.dn_zone.specs.Zone.{zstep}
 use Rattle.dn_world.specs.declared.event.WorldAnswer.{WorldAnswer}
@@ -149,7 +149,7 @@ wstep world (events.Create at apex mailbox moment) =
     wstep_zone world (slice_get world.replicas at) apex (λ replica. created replica.id replica.host apex mailbox moment)
 wstep world (events.Act at apex event) = wstep_act world (slice_get world.replicas at) apex event
 wstep world (events.Join at apex) =
-    wstep_zone world (slice_get world.replicas at) apex (λ replica. joined replica.id replica.host apex)
+    wstep_zone world (slice_get world.replicas at) apex (λ replica. joined_zone replica.id replica.host apex)
 wstep world (events.Pull by of apex) = wstep_pull world (slice_get world.replicas by) (slice_get world.replicas of) apex
 wstep world (events.Deliver number) = deliver_post world (post_at world.packets number)
 

@@ -10,7 +10,7 @@ use Rattle.dn_rdata.specs.Record.{made}
 use Rattle.dn_store.specs.declared.unit.Unit as units
 use Rattle.dn_store.specs.declared.unit.Write.{Write}
 use Rattle.dn_store.specs.Contents.{properties_of}
-use Rattle.dn_store.specs.Table.{TableState, change_limit, taken}
+use Rattle.dn_store.specs.Table.{TableState, change_limit, units_after}
 use Rattle.dn_store.specs.Value.{fits}
 use Rattle.dn_update.specs.Writes.{Outcome, Wanted, stamped, when_stamped, with_writes, written}
 use Rattle.dn_pass.specs.declared.pass.Pass.{Pass}
@@ -37,7 +37,7 @@ running_start list top pass sound running is =
     runs.start
 
 both_taken : (given : Given) (list : List units.Unit) (top : ℕ) (pass : Option Pass) (writes : List Write) → top + length writes ≤ change_limit → Both given list top pass
-    → Both given (taken list top writes) (top + length writes) pass
+    → Both given (units_after list top writes) (top + length writes) pass
 both_taken given list top pass writes within both =
     (sound_after list top pass writes within both.0, given_taken list top writes given pass both.0.units (running_start list top pass both.0) both.1)
 

@@ -7,7 +7,7 @@ use Rattle.dn_property.specs.Rules.{rules_of}
 use Rattle.dn_store.specs.declared.unit.Unit as units
 use Rattle.dn_store.specs.declared.unit.Write.{Write}
 use Rattle.dn_store.specs.Contents.{props_number, properties_of}
-use Rattle.dn_store.specs.Table.{change_limit, taken}
+use Rattle.dn_store.specs.Table.{change_limit, units_after}
 use Rattle.dn_store.proofs.CallerLemmas.{all_then, and_first, and_second, either, sound_taken}
 use Rattle.dn_update.specs.declared.plan.Limit.TheVariants as limits
 use Rattle.dn_pass.specs.declared.pass.Pass.{Pass}
@@ -21,7 +21,7 @@ use Rattle.dn_zone.specs.declared.event.Event.{Event}
 use Rattle.dn_zone.specs.declared.event.Event.TheVariants as events
 use Rattle.dn_zone.specs.declared.zone.Zone.{Zone}
 use Rattle.dn_zone.specs.Aging.{Ages, EventAges, Given, StepAges, LeavesNone, LeavesUnits, StepOf, also_between, given_at_begin, given_behind, none_given, rules_at}
-use Rattle.dn_zone.specs.Creation.{created, first_writes, joined}
+use Rattle.dn_zone.specs.Creation.{created, first_writes, joined_zone}
 use Rattle.dn_zone.specs.Outcome.{OfVoid, WhereOver, outcome_of}
 use Rattle.dn_zone.specs.Zone.{begin_at, begin_step, begin_unless, finished, pass_step, step_by, step_of, swept_zone, zstep}
 use Rattle.dn_zone.proofs.AgingEvents.{Both, BothZone, admin_both, merge_both}
@@ -110,7 +110,7 @@ refused_out given zone pass answer running ages =
 
 written_given : (given : Given) (zone : Zone) (pass : Pass) (most : ℕ) → Running given zone pass
     → let rules = rules_at zone in let writes = sweep rules pass.moment zone.id (looked_at pass.after most zone.table.0) in
-    AllByRecursion (FreshWhere (also_between given zone.table.1 (zone.table.1 + length writes)) rules pass.moment) (taken zone.table.0 zone.table.1 writes)
+    AllByRecursion (FreshWhere (also_between given zone.table.1 (zone.table.1 + length writes)) rules pass.moment) (units_after zone.table.0 zone.table.1 writes)
 written_given given zone pass most running =
     let writes = sweep (rules_at zone) pass.moment zone.id (looked_at pass.after most zone.table.0) in
     step_fresh (rules_at zone) pass.moment zone.id (looked_at pass.after most zone.table.0) zone.table.0 zone.table.1 (zone.table.1 + length writes) given
@@ -141,8 +141,8 @@ moved_out given zone pass most running within =
         record {
           within = given_within given zone pass (length writes) running;
           fresh = λ later.
-              subst (λ items. AllByRecursion (FreshWhere (also_between given zone.table.1 (zone.table.1 + length writes)) (rules_of items) pass.moment) (taken zone.table.0 zone.table.1 writes))
-              (sym (properties_same zone.table.0 (taken zone.table.0 zone.table.1 writes)
+              subst (λ items. AllByRecursion (FreshWhere (also_between given zone.table.1 (zone.table.1 + length writes)) (rules_of items) pass.moment) (units_after zone.table.0 zone.table.1 writes))
+              (sym (properties_same zone.table.0 (units_after zone.table.0 zone.table.1 writes)
               (rules_same zone.table.0 zone.table.1 pass.start writes running.both.0.passing.start sound later))) fresh;
         },
       );
@@ -260,7 +260,7 @@ unfolding IsStrictlySortedBy
 empty_sound = record { units = record { ordered = tt; numbers = tt; differ = tt }; most = omega arith; passing = tt }
 
 pub zones_sound : Keeping SoundZone
-unfolding created joined first_writes
+unfolding created joined_zone first_writes
 zones_sound =
     record {
       created = λ id host apex mailbox ticks. sound_after [] 0 None (first_writes id host apex mailbox ticks) (omega arith) empty_sound;

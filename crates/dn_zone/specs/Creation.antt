@@ -49,5 +49,5 @@ created id host apex mailbox ticks =
     record { id = id; host = host; apex = lowered apex; table = with_writes (first_writes id host apex mailbox ticks) ([], 0); cursors = []; pass = None }
 
 -- a zone that is copied from another replica: nothing is here yet
-unfoldable pub joined : ReplicaId → Labels → Labels → Zone
-joined id host apex = record { id = id; host = host; apex = lowered apex; table = ([], 0); cursors = []; pass = None }
+unfoldable pub joined_zone : ReplicaId → Labels → Labels → Zone
+joined_zone id host apex = record { id = id; host = host; apex = lowered apex; table = ([], 0); cursors = []; pass = None }

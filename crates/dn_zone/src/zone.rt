@@ -3,7 +3,7 @@ ghost use Rattle.std.specs.List.{AllByRecursion};
 ghost use Rattle.dn_io.specs.Stepping.{StepsOrStays};
 ghost use Rattle.dn_store.specs.Table.{KeysDiffer, change_limit};
 ghost use Rattle.dn_store.specs.Value.{fits};
-ghost use Rattle.dn_zone.specs.Creation.{created, joined};
+ghost use Rattle.dn_zone.specs.Creation.{created, joined_zone};
 ghost use Rattle.dn_zone.specs.Merge.{cursor_of};
 ghost use Rattle.dn_zone.specs.Zone.{swept_zone, zstep};
 ghost use Rattle.dn_zone.specs.Zone.Preparing.{Prepares};
@@ -84,9 +84,9 @@ impl Zone {
     ///
     /// # Errors
     /// `OutOfMemory`.
-    #[tactic(auto, unfolding(crate::specs::Creation::joined))]
+    #[tactic(auto, unfolding(crate::specs::Creation::joined_zone))]
     pub fn join(alloc: Global, id: ReplicaId, host: Name, apex: Name) -> Result<Zone, OutOfMemory>
-        ensures { IfOk result (λ zone. zone ≡ joined id host apex) }
+        ensures { IfOk result (λ zone. zone ≡ joined_zone id host apex) }
     {
         Ok(Zone {
             id,

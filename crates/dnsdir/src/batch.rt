@@ -1,5 +1,5 @@
 ghost use Rattle.std.specs.Prelude.{◌≡◌, ◌≢◌, ◌≤◌, ◌↔◌, ℕ, List, false, map};
-ghost use Rattle.dn_io.specs.Outside.{Rose, Told};
+ghost use Rattle.dn_io.specs.Outside.{Rose, WhereTold};
 ghost use Rattle.dn_world.specs.declared.event.WorldEvent.{WorldEvent};
 ghost use Rattle.dn_world.specs.Datagram.{IsReadRightly, reply_to};
 ghost use Rattle.dn_world.specs.Laws.{AgesRightly, AnswersAlike};
@@ -32,7 +32,7 @@ pub fn batch<S: Source, K: Sink>(
     // Where the source tells: `replay` wrote the transcript of the script that was read, `show` and `pack` what the lines that
     // were read give; whole where each line is valid, and up to the first line that isn't, or is over-long; a front of it where a
     // read, a write or a growth failed.
-    ensures written { Told (S.left source.old) (S.left source.new) (λ before now.
+    ensures written { WhereTold (S.left source.old) (S.left source.new) (λ before now.
         EndedAs (command_in (map (λ word. word.now) words.now)) before result now (K.written sink.old) (K.written sink.new)) }
 
     // Usage is answered exactly where the words are no command of these, and nothing was read or written then.
@@ -48,7 +48,7 @@ pub fn batch<S: Source, K: Sink>(
     ensures writes { K.faults sink.old ≤ K.faults sink.new }
 
     // Where each line is valid and neither count has risen, it is done, or wanted memory.
-    ensures complete { Told (S.left source.old) (S.left source.new) (λ before now.
+    ensures complete { WhereTold (S.left source.old) (S.left source.new) (λ before now.
         IsValid (command_in (map (λ word. word.now) words.now)) before
         → ¬ Rose (S.faults source.old) (S.faults source.new)
         → ¬ Rose (K.faults sink.old) (K.faults sink.new)

@@ -12,9 +12,9 @@ Lacks bad.Line there = there ≡ None
 Lacks bad.Memory there = ⊤
 
 -- what was given is what is there, unless memory ran out
-abbrev pub Gives : {X : Type 0} → Result X Bad → Option X → Type 0
-Gives (Ok value) there = there ≡ Some value
-Gives (Err why) there = Lacks why there
+abbrev pub GivesOrLacks : {X : Type 0} → Result X Bad → Option X → Type 0
+GivesOrLacks (Ok value) there = there ≡ Some value
+GivesOrLacks (Err why) there = Lacks why there
 
 -- The same where memory plays no part: without the value the line isn't valid.
 abbrev pub GivesOrRefuses : {X : Type 0} → Result X Bad → Option X → Type 0

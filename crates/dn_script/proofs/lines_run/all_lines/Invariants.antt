@@ -1,5 +1,5 @@
 use Rattle.std.proofs.Common.{◌≡◌, ◌+◌, ◌-◌, ◌^◌, ◌≤◌, None}
-use Rattle.dn_io.specs.Outside.{Told}
+use Rattle.dn_io.specs.Outside.{WhereTold}
 use Rattle.dn_script.specs.Said.Turns.{EndedAhead, GoesOn}
 use Rattle.dn_script.proofs.lines_run.all_lines.Given as goal
 
@@ -9,7 +9,7 @@ invariant-loop-number g l = record {
   ready : g.C.LineCommand.ready l.command;
   number : l.number ≤ l.lines.taken + 1;
   taken : l.lines.taken ≤ 2 ^ 30;
-  ended : Told (g.S.Source.left l.fn.source) (g.S.Source.left l.source) (λ before now.
+  ended : WhereTold (g.S.Source.left l.fn.source) (g.S.Source.left l.source) (λ before now.
       GoesOn (EndedAhead g.C.LineCommand.gives l.fn.command 1 l.fn.lines before) (g.K.Sink.written l.fn.sink)
       (EndedAhead g.C.LineCommand.gives l.command l.number l.lines now) (g.K.Sink.written l.sink));
   reads : g.S.Source.faults l.fn.source ≤ g.S.Source.faults l.source;
