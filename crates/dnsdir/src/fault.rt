@@ -1,3 +1,5 @@
+ghost use Rattle.std.specs.Prelude.{◌≡◌, ◌≢◌, MatchOption};
+
 use dn_io::Status;
 use thiserror::Error;
 
@@ -31,7 +33,9 @@ pub enum Fault<'w> {
 impl<'w> Fault<'w> {
     /// What is to be said of a run of this status, none where it went well. The words are those of the command line, none
     /// where one of them isn't UTF-8.
-    pub fn of(status: &Status, words: Option<&'w [String]>) -> Option<Fault<'w>> {
+    pub fn of(status: &Status, words: Option<&'w [String]>) -> Option<Fault<'w>>
+        ensures { MatchOption result (status.now ≡ Status.Done) (λ fault. status.now ≢ Status.Done) }
+    {
         match status {
             Status::Done => None,
             Status::BadLine(number) => Some(Fault::BadLine(*number)),
