@@ -17,7 +17,8 @@ lower-zeros : (n : ℕ) → map lower_byte (replicate n 0) ≡ replicate n 0
 lower-zeros zero = refl
 lower-zeros (suc n) = ap (λ (xs : List ℕ). 0 ∷ xs) (lower-zeros n)
 
-lower-wire : (name : Labels) → AllByRecursion IsLabel name → map lower_byte (wire_of name) ≡ wire_of (lowered name)
+-- the bytes of a name with letters in lower case
+pub lower-wire : (name : Labels) → AllByRecursion IsLabel name → map lower_byte (wire_of name) ≡ wire_of (lowered name)
 lower-wire [] h = refl
 lower-wire (label ∷ name) h =
     ap₂ ◌∷◌

@@ -1,15 +1,18 @@
 -- The bytes of a record's data with its names in lower case, and the order of such data.
-use Rattle.std.proofs.Common.{◌≡◌, ℕ, zero, suc, ◌+◌, ◌-◌, ◌<◌, ◌≤◌, ◌⊎◌, inl, inr, Bool, true, false, List, [], ◌∷◌, ◌++◌, length, get_or, map, take, drop, refl, ap, sym, subst, ◌∙◌, arith, cond, nat_eq}
+use Rattle.std.proofs.Common.{◌≡◌, ℕ, zero, suc, ◌+◌, ◌-◌, ◌<◌, ◌≤◌, ◌⊎◌, inl, inr, Bool, true, false, List, [], ◌∷◌, ◌++◌, length, get_or, map, take, drop, refl, ap, ap₂, sym, subst, ◌∙◌, append_assoc, arith, cond, drop_at, length-append, nat_eq, take_at}
 use Rattle.std.proofs.lemmas.Bool.{cases_Bool, cases_lt}
 use Rattle.std.proofs.lemmas.Bool.Decides.{nat_tests}
 use Rattle.std.proofs.lemmas.Grind.{common_steps}
-use Rattle.std.proofs.lemmas.List.{drop_more}
+use Rattle.std.proofs.lemmas.List.{drop_more, map-append, nil_from_length}
+use Rattle.std.specs.List.{AllByRecursion}
 use Rattle.std.specs.Prelude.{min, not, ◌&&◌, nat_le, nat_lt, if◌then◌else◌}
 use Rattle.std.specs.Ordering.{nat_cmp, ordering_then}
 use Rattle.std.specs.declared.cmp.Ordering.{Ordering}
 use Rattle.std.specs.declared.cmp.Ordering.TheVariants.{Less, Equal, Greater}
-use Rattle.dn_name.specs.Name.{lower_byte}
+use Rattle.dn_name.specs.Name.{IsName, Labels, lower_byte, lowered, wire_of}
+use Rattle.dn_name.proofs.CallerLemmas.{lower_wire}
 use Rattle.dn_rdata.specs.Record.{bytes_before_names, bytes_behind_names, bytes_cmp, folded, names_in}
+use Rattle.dn_rdata.specs.Stored.{wires_of}
 
 -- the data with a middle part in lower case
 abbrev mix : ℕ → ℕ → List ℕ → List ℕ
@@ -149,3 +152,56 @@ pub cmp_ends : (left right : List ℕ) (at m n end : ℕ) → length left ≡ m 
 cmp_ends left right at m n end first second is to from =
     let ends : (length left ≤ at) ⊎ (length right ≤ at) = elim (cases_lt m n) [ inl lt ↦ inl (omega arith) | inr ge ↦ inr (omega arith) ] in
     cmp_end left right at (omega arith) (omega arith) ends ∙ ap (λ (k : ℕ). nat_cmp k (length right)) first ∙ ap (nat_cmp m) second
+
+-- ---- data that are bytes, names and bytes
+
+mix_middle : (front middle back : List ℕ) → mix (length front) (length (front ++ (middle ++ back)) - length back) (front ++ (middle ++ back)) ≡ front ++ (map lower_byte middle ++ back)
+mix_middle front middle back =
+    let whole : front ++ (middle ++ back) ≡ (front ++ middle) ++ back = sym (append_assoc front middle back) in
+    let size : length (front ++ middle) ≡ length (front ++ (middle ++ back)) - length back = omega (arith, length-append front (middle ++ back), length-append middle back, length-append front middle) in
+    let names : drop (length front) (take (length (front ++ (middle ++ back)) - length back) (front ++ (middle ++ back))) ≡ middle =
+    ap (λ xs. drop (length front) (take (length (front ++ (middle ++ back)) - length back) xs)) whole
+    ∙ ap (drop (length front)) (take_at (front ++ middle) back (length (front ++ (middle ++ back)) - length back) size)
+    ∙ drop_at front middle (length front) refl in
+    let ends : drop (length (front ++ (middle ++ back)) - length back) (front ++ (middle ++ back)) ≡ back =
+    ap (drop (length (front ++ (middle ++ back)) - length back)) whole ∙ drop_at (front ++ middle) back (length (front ++ (middle ++ back)) - length back) size in
+    ap₂ (λ (xs ys : List ℕ). xs ++ ys) (ap₂ (λ (xs ys : List ℕ). xs ++ ys) (take_at front (middle ++ back) (length front) refl) (ap (map lower_byte) names)) ends
+    ∙ append_assoc front (map lower_byte middle) back
+
+lower_names : (names : List Labels) → AllByRecursion IsName names → map lower_byte (wires_of names) ≡ wires_of (map lowered names)
+lower_names [] named = refl
+lower_names (name ∷ names) named =
+    map-append lower_byte (wire_of name) (wires_of names) ∙ ap₂ (λ (xs ys : List ℕ). xs ++ ys) (lower_wire name named.0.0) (lower_names names named.1)
+
+abbrev around : List ℕ → List ℕ → List Labels → List ℕ
+around before behind names = before ++ (wires_of names ++ behind)
+
+fold_names : (count front back : ℕ) (before behind : List ℕ) (names : List Labels) → length before ≡ front → length behind ≡ back → length names ≡ count → AllByRecursion IsName names
+    → fold_at count front back (before ++ (wires_of names ++ behind)) ≡ before ++ (wires_of (map lowered names) ++ behind)
+fold_names count front back before behind names front_is back_is count_is named =
+    elim (cases_Bool (nat_eq count 0)) [
+      | inl none ↦
+          let zero_is : count ≡ 0 = grind (arith, nat_tests) in
+          let no_names : names ≡ [] = nil_from_length names (count_is ∙ zero_is) in
+          ap (λ (b : Bool). cond b (around before behind names) (mix front (length (around before behind names) - back) (around before behind names))) none
+          ∙ ap (λ (ns : List Labels). around before behind ns) no_names
+          ∙ sym (ap (λ (ns : List Labels). around before behind (map lowered ns)) no_names)
+      | inr some ↦
+          ap (λ (b : Bool). cond b (around before behind names) (mix front (length (around before behind names) - back) (around before behind names))) some
+          ∙ ap₂ (λ (m n : ℕ). mix m (length (around before behind names) - n) (around before behind names)) (sym front_is) (sym back_is)
+          ∙ mix_middle before (wires_of names) behind
+          ∙ ap (λ (xs : List ℕ). before ++ (xs ++ behind)) (lower_names names named)
+    ]
+
+pub names_folded : (rtype : ℕ) (before behind : List ℕ) (names : List Labels) → length before ≡ bytes_before_names rtype → length behind ≡ bytes_behind_names rtype → length names ≡ names_in rtype
+    → AllByRecursion IsName names → folded rtype (before ++ (wires_of names ++ behind)) ≡ before ++ (wires_of (map lowered names) ++ behind)
+names_folded rtype before behind names front_is back_is count_is named =
+    fold_names (names_in rtype) (bytes_before_names rtype) (bytes_behind_names rtype) before behind names front_is back_is count_is named
+
+fold_others : (count front back : ℕ) (rdata : List ℕ) → count ≡ 0 → fold_at count front back rdata ≡ rdata
+fold_others count front back rdata none =
+    let is_zero : nat_eq count 0 ≡ true = grind (arith, nat_tests) in
+    ap (λ (b : Bool). cond b rdata (mix front (length rdata - back) rdata)) is_zero
+
+pub others_folded : (rtype : ℕ) (rdata : List ℕ) → names_in rtype ≡ 0 → folded rtype rdata ≡ rdata
+others_folded rtype rdata none = fold_others (names_in rtype) (bytes_before_names rtype) (bytes_behind_names rtype) rdata none

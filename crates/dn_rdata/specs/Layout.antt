@@ -1,6 +1,8 @@
 -- Which parts the data of a type have, and what bytes they are (RFC 1035 3.3 and 3.4.1, RFC 3596 2.2, RFC 2782).
-use Rattle.std.specs.Prelude.{◌≡◌, ℕ, ◌≤◌, ◌||◌, nat_eq, if◌then◌else◌, ◌+◌, List, [], ◌∷◌, ◌++◌, length, replicate, ◌⊎◌}
+use Rattle.std.specs.Prelude.{◌≡◌, ℕ, ◌≤◌, ◌<◌, Bool, true, false, ◌||◌, nat_eq, if◌then◌else◌, ◌+◌, ◌-◌, List, [], ◌∷◌, ◌++◌, drop, length, replicate, ◌⊎◌}
 use Rattle.dn_name.specs.Name.{Labels, IsName, wire_of}
+use Rattle.dn_name.specs.PlainFault.{IsPlainFault}
+use Rattle.dn_name.specs.declared.error.NameFault.{NameFault}
 use Rattle.dn_rdata.specs.Record.{bytes_before_names, bytes_behind_names, names_in}
 use Rattle.dn_rdata.specs.Types.{A, NS, CNAME, SOA, PTR, MX, AAAA, SRV}
 use Rattle.dn_rdata.specs.declared.parts.Part.{Part}
@@ -55,12 +57,39 @@ AreParts (part ∷ parts) bytes = (back : List ℕ) × Begins part bytes back ×
 abbrev pub IsData : ℕ → List ℕ → Type 0
 IsData rtype bytes = AreParts (parts_of rtype) bytes
 
--- Where the bytes aren't these parts, so much is left of them from the first part on that doesn't stand where it should.
--- Behind the last part nothing should be left.
-abbrev pub FailsAt : List Part → List ℕ → List ℕ → Type 0
-FailsAt [] bytes left = (1 ≤ length bytes) × (left ≡ bytes)
-FailsAt (part ∷ parts) bytes left =
-    (((back : List ℕ) → Begins part bytes back → ⊥) × (left ≡ bytes)) ⊎ ((back : List ℕ) × Begins part bytes back × FailsAt parts back left)
+-- the part doesn't stand at the front of the bytes
+abbrev pub IsMissing : Part → List ℕ → Type 0
+IsMissing part bytes = (back : List ℕ) → Begins part bytes back → ⊥
+
+-- Where a part that is missing at a place goes wrong: a name where the name itself goes wrong, any other part at the end,
+-- which cuts it.
+abbrev pub PartFails : List ℕ → ℕ → Part → ℕ → Type 0
+PartFails bytes at OneName place = (kind : NameFault) × IsPlainFault bytes at kind place
+PartFails bytes at (Bytes count) place = IsMissing (Bytes count) (drop at bytes) × (place ≡ length bytes)
+PartFails bytes at OneText place = IsMissing OneText (drop at bytes) × (place ≡ length bytes)
+PartFails bytes at Texts place = IsMissing Texts (drop at bytes) × (place ≡ length bytes)
+PartFails bytes at Rest place = IsMissing Rest (drop at bytes) × (place ≡ length bytes)
+
+-- Where bytes go wrong that should be these parts from a place on: where the first of them goes wrong that is missing. Behind
+-- the last part nothing stands, and a byte there goes wrong itself.
+abbrev pub FailsAt : List ℕ → ℕ → List Part → ℕ → Type 0
+FailsAt bytes at [] place = (at < length bytes) × (place ≡ at)
+FailsAt bytes at (part ∷ parts) place =
+    PartFails bytes at part place ⊎ ((back : List ℕ) × Begins part (drop at bytes) back × FailsAt bytes (length bytes - length back) parts place)
+
+-- whether the parts are so many bytes and nothing else, so that the data have one length
+abbrev pub are_fixed : List Part → Bool
+are_fixed [] = true
+are_fixed (Bytes count ∷ parts) = are_fixed parts
+are_fixed (OneName ∷ parts) = false
+are_fixed (OneText ∷ parts) = false
+are_fixed (Texts ∷ parts) = false
+are_fixed (Rest ∷ parts) = false
+
+-- where bytes that aren't data of the type go wrong: those of a type whose data have one length at their first byte
+abbrev pub DataFailsAt : ℕ → List ℕ → ℕ → Type 0
+DataFailsAt rtype bytes place =
+    ((are_fixed (parts_of rtype) ≡ true) × (place ≡ 0)) ⊎ ((are_fixed (parts_of rtype) ≡ false) × FailsAt bytes 0 (parts_of rtype) place)
 
 -- how many of the parts are names
 abbrev pub names_among : List Part → ℕ

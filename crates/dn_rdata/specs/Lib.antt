@@ -1,4 +1,5 @@
 pub mod Data
+pub mod Folding
 pub mod Laid
 pub mod Layout
 pub mod Ranges

@@ -1,4 +1,4 @@
--- Records of a node, and where their data holds names (RFC 1035 3.3; MS-DNSP 2.2.2.2).
+-- Records of a node, and where their data holds names (RFC 1035 3.3; MS-DNSP 2.3.2.2).
 use Rattle.std.specs.Prelude.{ℕ, ◌+◌, ◌-◌, ◌*◌, ◌||◌, nat_eq, if◌then◌else◌, List, ◌++◌, length, map, take, drop}
 use Rattle.std.specs.Ordering.{nat_cmp, ordering_then}
 use Rattle.std.specs.declared.cmp.Ordering.{Ordering}
@@ -42,7 +42,7 @@ abbrev pub data_order : Record → Record → Ordering
 data_order left right =
     ordering_then (nat_cmp left.rtype right.rtype) (bytes_cmp (folded left.rtype left.rdata) (folded right.rtype right.rdata))
 
--- a record as a server makes it
+-- a record as a server makes it; rank 240 and serial 1 are this project's profile
 abbrev pub made : ℕ → ℕ → ℕ → List ℕ → Record
 made rtype ttl hour rdata =
     record { rtype = rtype; rank = 240; flags = 0; serial = 1; ttl = ttl; reserved = 0; hour = hour; rdata = rdata }

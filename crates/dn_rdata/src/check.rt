@@ -1,7 +1,7 @@
 //! Whether bytes are data of a type.
 
-ghost use Rattle.std.specs.Prelude.{◌≡◌, ◌↔◌, ◌-◌, List as Seq, ℕ, Some, length, option_map, IfErr, IfSome, IsOk};
-ghost use Rattle.dn_rdata.specs.Layout.{AreParts, Begins, FailsAt, IsData, parts_of};
+ghost use Rattle.std.specs.Prelude.{◌≡◌, ◌↔◌, ◌≤◌, List as Seq, ℕ, Some, drop, length, option_map, IfErr, IfSome, IsOk};
+ghost use Rattle.dn_rdata.specs.Layout.{AreParts, Begins, DataFailsAt, FailsAt, IsData, IsMissing, PartFails, are_fixed};
 ghost use Rattle.dn_rdata.specs.declared.parts.Part.TheVariants as kinds;
 
 use crate::parts::{Part, parts_of};
@@ -10,8 +10,8 @@ use dn_name::Name;
 /// Bytes aren't data of their type.
 #[derive(Clone, Copy, Debug, PartialEq, Eq)]
 pub struct DataFault {
-    /// The place in the bytes, from 0, where the first part begins that doesn't stand as it should; of bytes too many,
-    /// the place of the first of them.
+    /// The place in the bytes, from 0, where they go wrong: 0 where the type's data have one length, which isn't theirs;
+    /// otherwise that of a name's fault, the end where it cuts another part, or the first byte behind the last part.
     pub place: usize,
 }
 
@@ -22,26 +22,60 @@ pub struct DataFault {
 /// `DataFault` exactly where they aren't.
 pub fn check_rdata(rtype: u16, bytes: &[u8]) -> Result<(), DataFault>
     ensures exact { IsOk result ↔ IsData rtype bytes.now }
-    ensures place { IfErr result (λ fault. (left : Seq ℕ) × FailsAt (parts_of rtype) bytes.now left × (fault.place ≡ length bytes.now - length left)) }
+    ensures place { IfErr result (λ fault. DataFailsAt rtype bytes.now fault.place) }
 {
-    check_parts(bytes.len(), bytes, parts_of(rtype))
+    let parts = parts_of(rtype);
+    match check_parts(bytes, 0, parts) {
+        Ok(()) => Ok(()),
+        Err(_) if are_fixed(parts) => Err(DataFault { place: 0 }),
+        Err(fault) => Err(fault),
+    }
 }
 
-// Whether what is left of so many bytes are these parts. There are three parts at most, so few calls stand in each other.
-fn check_parts(len: usize, rest: &[u8], parts: &[Part]) -> Result<(), DataFault>
-    ensures exact { IsOk result ↔ AreParts parts.now rest.now }
-    ensures place { IfErr result (λ fault. (left : Seq ℕ) × FailsAt parts.now rest.now left × (fault.place ≡ len - length left)) }
+// Whether the parts are so many bytes and nothing else.
+fn are_fixed(parts: &[Part]) -> bool
+    ensures { result ≡ are_fixed parts.now }
 {
-    let fault = DataFault {
-        place: len.saturating_sub(rest.len()),
-    };
     match parts.split_first() {
-        None => { if rest.is_empty() { Ok(()) } else { Err(fault) } }
+        Some((Part::Bytes(_), parts)) => are_fixed(parts),
+        Some(_) => false,
+        None => true,
+    }
+}
+
+// Whether the bytes from a place on are these parts. There are three parts at most, so few calls stand in each other.
+fn check_parts(bytes: &[u8], at: usize, parts: &[Part]) -> Result<(), DataFault>
+    requires { at ≤ length bytes.now }
+    ensures exact { IsOk result ↔ AreParts parts.now (drop at bytes.now) }
+    ensures place { IfErr result (λ fault. FailsAt bytes.now at parts.now fault.place) }
+{
+    let (_, rest) = bytes.split_at(at);
+    match parts.split_first() {
+        None => {
+            if rest.is_empty() {
+                Ok(())
+            } else {
+                Err(DataFault { place: at })
+            }
+        },
         Some((part, parts)) => match behind_part(rest, *part) {
-            Some(behind) => check_parts(len, behind, parts),
-            None => Err(fault),
+            Some(behind) => check_parts(bytes, bytes.len().saturating_sub(behind.len()), parts),
+            None => Err(fault_of_part(bytes, at, *part)),
         },
     }
+}
+
+// Where a part goes wrong that is missing at a place.
+fn fault_of_part(bytes: &[u8], at: usize, part: Part) -> DataFault
+    requires at { at ≤ length bytes.now }
+    requires missing { IsMissing part (drop at bytes.now) }
+    ensures { PartFails bytes.now at part result.place }
+{
+    let place = match part {
+        Part::OneName => Name::fault_of_plain(bytes, at).place,
+        Part::Bytes(_) | Part::OneText | Part::Texts | Part::Rest => bytes.len(),
+    };
+    DataFault { place }
 }
 
 // The bytes behind a part that stands at the front; none where it doesn't.

@@ -2,6 +2,7 @@
 //! records and of the parts of their data.
 
 ghost use Rattle.std.specs.Prelude.{ℕ};
+ghost use Rattle.dn_rdata.specs.Folding.{NamesAreFolded, OthersAreFolded};
 ghost use Rattle.dn_rdata.specs.Laid.{IsLaidOnce, LaidIsWire, WireIsLaid};
 ghost use Rattle.dn_rdata.specs.Layout.{NamesAgree};
 ghost use Rattle.dn_rdata.specs.Rows.{RowsAreOrdered, RowsDiffer, RowsStay};
@@ -37,6 +38,13 @@ pub fn stored_data_are_spelled_once()
     ensures valid { StoredIsData }
     ensures any { DataAreStored }
     ensures sized { StoredIsSized }
+{}
+
+/// Folding data puts the names in them into lower case and leaves all other bytes as they are; data of a type without names
+/// stay as they are (RFC 4343).
+pub fn names_in_data_are_folded()
+    ensures names { NamesAreFolded }
+    ensures others { OthersAreFolded }
 {}
 
 /// The order of whole records is an order: it turns round with its records, it goes on from record to record, and records of

@@ -5,14 +5,15 @@ ghost use Rattle.dn_rdata.specs.Record.{made};
 use dn_io::{Duplicate, List, OutOfMemory};
 use std::alloc::Global;
 
-// The rank of a record of the zone itself (MS-DNSP 2.2.2.2.4).
+// In this project's profile the rank of every record that a server makes.
 const MADE_RANK: u8 = 240;
 
-/// A record of a node (MS-DNSP 2.2.2.2), with its owner's name left out.
+/// A record of a node, as dnsRecord keeps it (MS-DNSP 2.3.2.2), with its owner's name left out.
 #[derive(Drop)]
 pub struct Record {
     /// The type (RFC 1035 3.2.2).
     pub rtype: u16,
+    /// How far the record is trusted (MS-DNSP 2.3.2.2).
     pub rank: u8,
     pub flags: u16,
     pub serial: u32,
@@ -26,7 +27,7 @@ pub struct Record {
 }
 
 impl Record {
-    /// A record as a server makes it: rank 240, serial 1, flags and reserved field 0. The data are valid for their type, as
+    /// A record as a server makes it in this project's profile: rank 240, serial 1, flags and reserved field 0. The data are valid for their type, as
     /// [`check_rdata`](crate::check_rdata) tells.
     ///
     /// # Errors

@@ -1,4 +1,4 @@
--- The numbers in the header of a stored record (MS-DNSP 2.2.2.2).
+-- The numbers in the header of a stored record (MS-DNSP 2.3.2.2).
 use Rattle.std.specs.Prelude.{ℕ, ◌/◌, ◌%◌, List, [], ◌∷◌, ◌++◌}
 
 -- a number below 2^16, the low byte first

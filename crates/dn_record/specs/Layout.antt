@@ -1,4 +1,4 @@
--- The bytes of a stored record (MS-DNSP 2.2.2.2).
+-- The bytes of a stored record (MS-DNSP 2.3.2.2).
 use Rattle.std.specs.Prelude.{◌≡◌, ℕ, List, ◌∷◌, ◌++◌, length}
 use Rattle.dn_rdata.specs.Stored.{IsStored}
 use Rattle.dn_rdata.specs.declared.record.Record.{Record}

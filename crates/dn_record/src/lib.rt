@@ -1,4 +1,4 @@
-//! Stored records of a node in bytes (MS-DNSP 2.2.2.2): read, lent from their bytes without memory, and written.
+//! Stored records of a node in bytes (MS-DNSP 2.3.2.2): read, lent from their bytes without memory, and written.
 #![tactic(auto)]
 
 mod error;

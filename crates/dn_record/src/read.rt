@@ -15,7 +15,7 @@ use dn_name::Name;
 use dn_rdata::{Record, push_wire};
 use std::alloc::Global;
 
-/// Reads a stored record from all of the bytes (MS-DNSP 2.2.2.2).
+/// Reads a stored record from all of the bytes (MS-DNSP 2.3.2.2).
 ///
 /// # Errors
 /// `Bad` where they are none, with the kind and the place of what is wrong first: the header is cut, it says another number of

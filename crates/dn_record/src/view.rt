@@ -8,7 +8,7 @@ use crate::parts::parts_of_stored;
 // The place of the data.
 pub(crate) const DATA_PLACE: usize = 24;
 
-/// A stored record that is lent from its bytes (MS-DNSP 2.2.2.2).
+/// A stored record that is lent from its bytes (MS-DNSP 2.3.2.2).
 #[derive(Clone, Copy)]
 pub struct RecordView<'a> {
     pub(crate) rtype: u16,

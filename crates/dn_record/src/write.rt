@@ -20,7 +20,7 @@ use dn_name::{Name, NoRoom};
 use dn_rdata::{Record, stored_len};
 use std::alloc::Global;
 
-/// The bytes of a stored record (MS-DNSP 2.2.2.2). Its data are valid for its type, as
+/// The bytes of a stored record (MS-DNSP 2.3.2.2). Its data are valid for its type, as
 /// [`check_rdata`](dn_rdata::check_rdata) tells, and have at most 65,535 bytes as they are stored.
 ///
 /// # Errors

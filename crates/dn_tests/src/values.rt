@@ -488,40 +488,39 @@ fn front_of(bytes: &[u8], len: usize) -> &[u8] {
     }
 }
 
-/// Without their last byte these are data of a type, and with it they go wrong there; without the last two bytes they go
-/// wrong at the place of the part that is cut.
-fn check_around(rt: &impl Abort, rtype: u16, bytes: &[u8], cut: usize) {
+/// Without their last byte these are data of a type, and with it, or without the last two, they go wrong at these places.
+fn check_around(rt: &impl Abort, rtype: u16, bytes: &[u8], long: usize, cut: usize) {
     let len = bytes.len().saturating_sub(1);
     check_data(rt, rtype, front_of(bytes, len), None);
-    check_data(rt, rtype, bytes, Some(len));
+    check_data(rt, rtype, bytes, Some(long));
     check_data(rt, rtype, front_of(bytes, len.saturating_sub(1)), Some(cut));
 }
 
 #[test]
 fn data_a_byte_too_short_or_too_long(rt: HostRuntime) {
-    let data: [(u16, &[u8], usize); 6] = [
-        (0, b"12345678+", 0),
-        (A, b"1234+", 0),
-        (AAAA, b"0123456789abcdef+", 0),
-        (NS, b"\x02ns\x01x\0+", 0),
-        (CNAME, b"\x01A\x01x\0+", 0),
-        (PTR, b"\0+", 0),
+    let data: [(u16, &[u8], usize, usize); 6] = [
+        (0, b"12345678+", 0, 0),
+        (A, b"1234+", 0, 0),
+        (AAAA, b"0123456789abcdef+", 0, 0),
+        (NS, b"\x02ns\x01x\0+", 6, 5),
+        (CNAME, b"\x01A\x01x\0+", 5, 4),
+        (PTR, b"\0+", 1, 0),
     ];
-    for (rtype, bytes, cut) in data {
-        check_around(&rt, rtype, bytes, cut);
+    for (rtype, bytes, long, cut) in data {
+        check_around(&rt, rtype, bytes, long, cut);
     }
 }
 
 #[test]
 fn data_of_several_parts_too_short_or_too_long(rt: HostRuntime) {
-    let data: [(u16, &[u8], usize); 4] = [
-        (SOA, b"\x01m\0\x01r\0....................+", 6),
-        (13, b"\x01c\x02os+", 2),
-        (MX, b"\0\x0a\x02mx\x01x\0+", 2),
-        (SRV, b"\0\x01\0\x02\x005\x02ns\x01x\0+", 6),
+    let data: [(u16, &[u8], usize, usize); 4] = [
+        (SOA, b"\x01m\0\x01r\0....................+", 26, 25),
+        (13, b"\x01c\x02os+", 5, 4),
+        (MX, b"\0\x0a\x02mx\x01x\0+", 8, 7),
+        (SRV, b"\0\x01\0\x02\x005\x02ns\x01x\0+", 12, 11),
     ];
-    for (rtype, bytes, cut) in data {
-        check_around(&rt, rtype, bytes, cut);
+    for (rtype, bytes, long, cut) in data {
+        check_around(&rt, rtype, bytes, long, cut);
     }
 }
 
@@ -532,9 +531,9 @@ fn data_of_one_or_more_strings(rt: HostRuntime) {
         (b"\0", None),
         (b"\x02ab", None),
         (b"\x02ab\0\x01c", None),
-        (b"\x02a", Some(0)),
-        (b"\x02ab\x02c", Some(0)),
-        (b"\x02ab\x01cd", Some(0)),
+        (b"\x02a", Some(2)),
+        (b"\x02ab\x02c", Some(5)),
+        (b"\x02ab\x01cd", Some(6)),
     ];
     for (bytes, want) in data {
         check_data(&rt, TXT, bytes, want);
@@ -546,13 +545,13 @@ fn data_of_one_or_more_strings(rt: HostRuntime) {
 fn names_in_data_that_go_wrong(rt: HostRuntime) {
     let data: [(u16, &[u8], usize); 8] = [
         (NS, b"", 0),
-        (NS, b"\x02ns", 0),
-        (NS, b"\x03ns\0", 0),
+        (NS, b"\x02ns", 3),
+        (NS, b"\x03ns\0", 4),
         (NS, b"\xc0\0", 0),
-        (CNAME, b"\x01a\xc0\0", 0),
-        (MX, b"\0", 0),
-        (MX, b"\0\x0a\x03mx\0", 2),
-        (SOA, b"\x01m\0\x16r\0....................", 3),
+        (CNAME, b"\x01a\xc0\0", 2),
+        (MX, b"\0", 1),
+        (MX, b"\0\x0a\x03mx\0", 6),
+        (SOA, b"\x01m\0\x16r\0....................", 26),
     ];
     for (rtype, bytes, place) in data {
         check_data(&rt, rtype, bytes, Some(place));
