@@ -20,11 +20,12 @@ use dn_world::{
     replicas_answer_alike, replies_are_read_rightly, worlds_stay_valid, zones_age_rightly,
 };
 
-/// The law that the play of a script is one run: each of its events is proper, and its lines were answered in the world that
-/// they run to. That world is valid; in it two replicas whose units of a zone are equal by key, stamp and value give the same
-/// reply to each question, save for the primary server and the serial of an SOA; its zones age rightly, whatever events come;
-/// and what a replica replies to the bytes of a datagram is read by the grammar of replies as what it has to say. It stands in
-/// the contract, and nothing is changed.
+/// The law that the play of a script is one run: each of its events is proper, and each line was answered in the world of the
+/// events before it. The last of these worlds is valid; in it two replicas whose units of a zone are equal by key, stamp and
+/// value give the same reply to each question, save for the primary server and the serial of an SOA; and what a replica replies
+/// to the bytes of a datagram is read by the grammar of replies as what it has to say. In the play's trace, and in that of
+/// whatever events come behind it, each event ages the zone that it reaches rightly. It stands in the contract, and nothing is
+/// changed.
 pub fn a_play_is_one_run()
     ensures { (script : List ℕ) → IsOneRun (play script) }
 {

@@ -1,3 +1,4 @@
+pub mod AgingRuns
 pub mod CallerLemmas
 pub mod DatagramLemmas
 pub mod EveryZone
@@ -7,3 +8,4 @@ pub mod SlotLemmas
 pub mod ToldLemmas
 pub mod ValidWorld
 pub mod WorldLemmas
+pub mod ZoneMoves
