@@ -5,7 +5,7 @@ ghost use Rattle.dn_world.specs.Aging.{TraceAges, nothing_given};
 ghost use Rattle.dn_world.specs.Datagram.{IsReadRightly, reply_to};
 ghost use Rattle.dn_world.specs.Laws.{AnswersAlike};
 ghost use Rattle.dn_world.specs.Runs.{AreProper, IsValidWorld, trace, wrun};
-ghost use Rattle.dn_script.specs.Laws.{IsOneRun};
+ghost use Rattle.dn_script.specs.Laws.{IsOneRun, PassesAreWhole};
 ghost use Rattle.dn_script.specs.Play.{play};
 ghost use Rattle.dn_script.specs.ValueLaws.{PackedIsShown, ShownIsPacked};
 ghost use Rattle.dnsdir.specs.Batch.{EndedAs, IsDoneOrWant, IsValid, is_batch};
@@ -15,7 +15,7 @@ use crate::command::{Command, command_of};
 use dn_io::{Sink, Source, Status};
 use dn_script::{
     a_play_is_one_run, pack, packed_texts_are_one, packed_values_are_shown, replay, show,
-    shown_texts_are_one, shown_values_are_packed,
+    shown_texts_are_one, shown_values_are_packed, whole_passes_end,
 };
 use dn_world::{
     replicas_answer_alike, replies_are_read_rightly, worlds_stay_valid, zones_age_rightly,
@@ -71,6 +71,10 @@ pub fn batch<S: Source, K: Sink>(
     // began, save those at their last version, which it counted. A begin, and a step that is void or idle, change no record.
     ensures aging { (list : List WorldEvent) → TraceAges nothing_given (trace list) }
 
+    // The events of a whole pass, in the world behind any events, are its begin and, where that is answered `begun`, steps of
+    // which each but the last is answered `moved`, and the last isn't.
+    ensures passes { (list : List WorldEvent) → PassesAreWhole (wrun list) }
+
     // Each host is a name, each zone is valid (its units for its apex, their data for their types, under names, with different
     // numbers up to its change count), and so is each packet that was sent.
     ensures valid { (list : List WorldEvent) → AreProper list → IsValidWorld (wrun list) }
@@ -90,6 +94,7 @@ pub fn batch<S: Source, K: Sink>(
     worlds_stay_valid();
     replicas_answer_alike();
     zones_age_rightly();
+    whole_passes_end();
     replies_are_read_rightly();
     shown_texts_are_one();
     packed_texts_are_one();
