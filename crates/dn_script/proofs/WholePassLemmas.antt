@@ -1,5 +1,5 @@
 -- A whole pass over a zone comes to its end: each of its steps that goes on leaves fewer units to look at.
-use Rattle.std.proofs.Common.{◌≡◌, ℕ, zero, suc, ◌+◌, ◌≤◌, Bool, true, false, cond, List, length, nat_lt, refl, ap, sym, arith, ◌∙◌, Option, None, Some}
+use Rattle.std.proofs.Common.{◌≡◌, ◌↔◌, ℕ, zero, suc, ◌+◌, ◌≤◌, Bool, true, false, cond, List, [], ◌∷◌, length, nat_lt, refl, ap, ap₂, subst, sym, arith, ◌∙◌, Option, None, Some}
 use Rattle.std.proofs.lemmas.Bool.{false≢true}
 use Rattle.std.specs.List.{AllByRecursion, position_or_len}
 use Rattle.std.specs.Prelude.{find, position, slice_get, slice_set}
@@ -30,10 +30,10 @@ use Rattle.dn_world.specs.declared.event.WorldEvent.{WorldEvent}
 use Rattle.dn_world.specs.declared.event.WorldEvent.TheVariants as world_events
 use Rattle.dn_world.specs.declared.world.Replica.{Replica}
 use Rattle.dn_world.specs.declared.world.World.{World}
-use Rattle.dn_world.specs.Runs.{run_from, wrun}
+use Rattle.dn_world.specs.Runs.{Entry, run_from, trace_from, wrun}
 use Rattle.dn_world.specs.World.{act_at, act_in, is_zone, wstep, wstep_act, zone_at, zone_of, zone_of_replica}
 use Rattle.dn_world.proofs.CallerLemmas.{event_all, found_holds, place_found, run_sound, set_found}
-use Rattle.dn_script.specs.Passes.{is_begun, is_moved, pass_events, step_at, step_units, steps_from, steps_to_end, units_in, whole_pass}
+use Rattle.dn_script.specs.Passes.{IsWholePass, OneOrOther, RunsUntilOver, begin_event, is_begun, is_moved, pass_events, step_at, step_event, step_events, step_units, steps_from, steps_to_end, units_in, whole_pass}
 use Rattle.dn_script.proofs.PassRuns.{whole_pass_runs}
 
 -- how many units a pass hasn't looked at
@@ -239,3 +239,81 @@ pass_ends world at apex moment all =
 pub whole_passes : (list : List WorldEvent) (at moment : ℕ) (apex : Labels) → is_moved (run_from (wrun list, Made) (pass_events (wrun list) at apex moment)).1 ≡ false
 whole_passes list at moment apex =
     ap (λ (after : World × WorldAnswer). is_moved after.1) (sym (whole_pass_runs (wrun list) at apex moment Made)) ∙ pass_ends (wrun list) at apex moment (run_sound list)
+
+-- ---- the events of a whole pass are one
+
+-- the others where an entry goes on, and else none
+going : (goes : Bool) (Is : List Entry → Type 0) (now : World) (others : List WorldEvent) → (goes ≡ true → Is (trace_from now others))
+    → let events = cond {A = List WorldEvent} goes others [] in OneOrOther goes (Is (trace_from now events)) (trace_from now events ≡ [])
+going true Is now others is = is refl
+going false Is now others is = refl
+
+ending : (goes : Bool) (Is : Type 0) → goes ≡ false → OneOrOther goes Is (◌≡◌ {A = List Entry} [] [])
+ending true Is over = absurd (false≢true (sym over))
+ending false Is over = refl
+
+steps_over : (left : ℕ) (world : World) (at : ℕ) (apex : Labels) → AllSound world → left_at world at apex ≤ left → RunsUntilOver at apex (trace_from world (step_events left world at apex))
+unfolding step_events step_at
+steps_over zero world at apex all le =
+    let last : is_moved (step_at world at apex).1 ≡ false = none_left world at apex (is_moved (step_at world at apex).1) refl all le in
+    (refl, ending (is_moved (step_at world at apex).1) (RunsUntilOver at apex []) last)
+steps_over (suc left) world at apex all le = (
+  refl,
+  going (is_moved (step_at world at apex).1) (RunsUntilOver at apex) (step_at world at apex).0 (step_events left (step_at world at apex).0 at apex)
+      (λ moved.
+      let fewer = step_at_falls world at apex all moved in
+      steps_over left (step_at world at apex).0 at apex (step_sound world at apex all) (omega (arith, fewer, le))),
+)
+
+pass_whole : (world : World) (at moment : ℕ) (apex : Labels) → AllSound world → IsWholePass at apex moment (trace_from world (pass_events world at apex moment))
+unfolding pass_events zone_at
+pass_whole world at moment apex all =
+    let begin : WorldEvent = begin_event at apex moment in
+    let now : World = (wstep world begin).0 in (
+      refl,
+      going (is_begun (wstep world begin).1) (RunsUntilOver at apex) now (step_events (units_in (zone_of_replica now apex (slice_get now.replicas at))) now at apex)
+          (λ begun.
+          steps_over (units_in (zone_of_replica now apex (slice_get now.replicas at))) now at apex (event_all SoundZone zones_sound world begin all)
+          (world_most now apex (slice_get now.replicas at))),
+    )
+
+none_traced : (now : World) (events : List WorldEvent) → trace_from now events ≡ [] → events ≡ []
+none_traced now [] is = refl
+none_traced now (event ∷ rest) is = absurd (cc)
+
+-- what comes behind an event that two lists begin with
+rest_once : (goes : Bool) (Is : List Entry → Type 0) (now : World) (one other : List WorldEvent) → (Is (trace_from now one) → Is (trace_from now other) → one ≡ other)
+    → OneOrOther goes (Is (trace_from now one)) (trace_from now one ≡ []) → OneOrOther goes (Is (trace_from now other)) (trace_from now other ≡ []) → one ≡ other
+rest_once true Is now one other once first second = once first second
+rest_once false Is now one other once first second = none_traced now one first ∙ sym (none_traced now other second)
+
+abbrev Behind : (WorldAnswer → Bool) → (List Entry → Type 0) → World → List WorldEvent → WorldEvent → Type 0
+Behind goes Is world rest event = OneOrOther (goes (wstep world event).1) (Is (trace_from (wstep world event).0 rest)) (trace_from (wstep world event).0 rest ≡ [])
+
+steps_once : (at : ℕ) (apex : Labels) (one other : List WorldEvent) (world : World) → RunsUntilOver at apex (trace_from world one) → RunsUntilOver at apex (trace_from world other) → one ≡ other
+steps_once at apex [] other world first second = absurd first
+steps_once at apex (event ∷ rest) [] world first second = absurd second
+steps_once at apex (event ∷ rest) (event_too ∷ others) world first second =
+    let step : WorldEvent = step_event at apex in
+    let now : World = (wstep world step).0 in
+    ap₂ ◌∷◌ (first.0 ∙ sym second.0)
+    (rest_once (is_moved (wstep world step).1) (RunsUntilOver at apex) now rest others (λ left right. steps_once at apex rest others now left right)
+    (subst (Behind is_moved (RunsUntilOver at apex) world rest) first.0 first.1) (subst (Behind is_moved (RunsUntilOver at apex) world others) second.0 second.1))
+
+pass_once : (at moment : ℕ) (apex : Labels) (one other : List WorldEvent) (world : World) → IsWholePass at apex moment (trace_from world one) → IsWholePass at apex moment (trace_from world other) → one ≡ other
+pass_once at moment apex [] other world first second = absurd first
+pass_once at moment apex (event ∷ rest) [] world first second = absurd second
+pass_once at moment apex (event ∷ rest) (event_too ∷ others) world first second =
+    let begin : WorldEvent = begin_event at apex moment in
+    let now : World = (wstep world begin).0 in
+    ap₂ ◌∷◌ (first.0 ∙ sym second.0)
+    (rest_once (is_begun (wstep world begin).1) (RunsUntilOver at apex) now rest others (λ left right. steps_once at apex rest others now left right)
+    (subst (Behind is_begun (RunsUntilOver at apex) world rest) first.0 first.1) (subst (Behind is_begun (RunsUntilOver at apex) world others) second.0 second.1))
+
+pub passes_whole : (list events : List WorldEvent) (at moment : ℕ) (apex : Labels)
+    → IsWholePass at apex moment (trace_from (wrun list) events) ↔ (events ≡ pass_events (wrun list) at apex moment)
+passes_whole list events at moment apex =
+    let whole : IsWholePass at apex moment (trace_from (wrun list) (pass_events (wrun list) at apex moment)) = pass_whole (wrun list) at moment apex (run_sound list) in (
+      λ is. pass_once at moment apex events (pass_events (wrun list) at apex moment) (wrun list) is whole,
+      λ same. subst (λ (one : List WorldEvent). IsWholePass at apex moment (trace_from (wrun list) one)) (sym same) whole,
+    )

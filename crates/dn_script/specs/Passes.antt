@@ -1,5 +1,5 @@
 -- A whole pass of the scavenger over a zone of a replica, as one line of a script runs it.
-use Rattle.std.specs.Prelude.{ℕ, zero, suc, Bool, if◌then◌else◌, List, [], ◌∷◌, length, Option, None, Some}
+use Rattle.std.specs.Prelude.{◌≡◌, ℕ, zero, suc, Bool, true, false, if◌then◌else◌, List, [], ◌∷◌, length, Option, None, Some}
 use Rattle.dn_name.specs.Name.{Labels}
 use Rattle.dn_zone.specs.declared.event.Event.TheVariants.{Begin, Step}
 use Rattle.dn_zone.specs.declared.zone.Zone.{Zone}
@@ -9,6 +9,7 @@ use Rattle.dn_world.specs.declared.event.WorldAnswer.TheVariants as world
 use Rattle.dn_world.specs.declared.event.WorldEvent.{WorldEvent}
 use Rattle.dn_world.specs.declared.event.WorldEvent.TheVariants.{Act}
 use Rattle.dn_world.specs.declared.world.World.{World}
+use Rattle.dn_world.specs.Runs.{Entry}
 use Rattle.dn_world.specs.World.{wstep, zone_at}
 
 -- what the world's answer says of the pass of a zone
@@ -54,10 +55,29 @@ when_begun after go_on = if is_begun after.1 then go_on after.0 else after
 unfoldable pub whole_pass : World → ℕ → Labels → ℕ → World × WorldAnswer
 whole_pass world at apex moment = when_begun (wstep world (Act at apex (Begin moment))) (λ now. steps_to_end now at apex)
 
--- ---- the same as a list of events
+-- ---- the same as a list of events, and as a part of a trace
+
+abbrev pub begin_event : ℕ → Labels → ℕ → WorldEvent
+begin_event at apex moment = Act at apex (Begin moment)
 
 abbrev pub step_event : ℕ → Labels → WorldEvent
 step_event at apex = Act at apex (Step step_units)
+
+abbrev pub OneOrOther : Bool → Type 0 → Type 0 → Type 0
+OneOrOther true One Other = One
+OneOrOther false One Other = Other
+
+-- Steps of a pass, each but the last answered `moved`, and the last not.
+abbrev pub RunsUntilOver : ℕ → Labels → List Entry → Type 0
+RunsUntilOver at apex [] = ⊥
+RunsUntilOver at apex (entry ∷ rest) =
+    (entry.event ≡ step_event at apex) × OneOrOther (is_moved entry.answer) (RunsUntilOver at apex rest) (rest ≡ [])
+
+-- A whole pass: its begin and, where that is answered `begun`, steps until it is over; else nothing more.
+abbrev pub IsWholePass : ℕ → Labels → ℕ → List Entry → Type 0
+IsWholePass at apex moment [] = ⊥
+IsWholePass at apex moment (entry ∷ rest) =
+    (entry.event ≡ begin_event at apex moment) × OneOrOther (is_begun entry.answer) (RunsUntilOver at apex rest) (rest ≡ [])
 
 abbrev pub others_while_moved : World × WorldAnswer → (World → List WorldEvent) → List WorldEvent
 others_while_moved after go_on = if is_moved after.1 then go_on after.0 else []
@@ -71,8 +91,9 @@ step_events (suc left) world at apex =
 abbrev pub others_when_begun : World × WorldAnswer → (World → List WorldEvent) → List WorldEvent
 others_when_begun after go_on = if is_begun after.1 then go_on after.0 else []
 
--- The events of a whole pass: its begin and, where that is answered `begun`, its steps.
+-- The events of a whole pass in a world. The number of the zone's units is the reason that they end, and cuts none off: they
+-- are the one list whose trace is a whole pass.
 unfoldable pub pass_events : World → ℕ → Labels → ℕ → List WorldEvent
 pass_events world at apex moment =
-    let begin = Act at apex (Begin moment) in
+    let begin = begin_event at apex moment in
     begin ∷ others_when_begun (wstep world begin) (λ now. step_events (units_in (zone_at now at apex)) now at apex)

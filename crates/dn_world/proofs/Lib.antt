@@ -1,4 +1,8 @@
+<<<<<<< HEAD
 pub mod AlikeReplies
+=======
+pub mod AgingRuns
+>>>>>>> h-runs
 pub mod CallerLemmas
 pub mod DatagramLemmas
 pub mod EveryZone
@@ -8,3 +12,4 @@ pub mod SlotLemmas
 pub mod ToldLemmas
 pub mod ValidWorld
 pub mod WorldLemmas
+pub mod ZoneMoves

@@ -1,3 +1,4 @@
+pub mod Aging
 pub mod Ask
 pub mod Datagram
 pub mod Laws

@@ -1,4 +1,4 @@
--- Worlds behind lists of events: which events are proper, and what a valid world is.
+-- Runs: their trace, the worlds behind lists of events, which events are proper, and what a valid world is.
 use Rattle.std.specs.Prelude.{List, [], ◌∷◌}
 use Rattle.std.specs.List.{AllByRecursion}
 use Rattle.dn_name.specs.Name.{IsName}
@@ -13,14 +13,43 @@ use Rattle.dn_world.specs.declared.event.WorldEvent.TheVariants as events
 use Rattle.dn_world.specs.declared.world.World.{World}
 use Rattle.dn_world.specs.World.{empty_world, wstep}
 
+-- ---- the trace of a run, from which its last world, its transcript and what its passes did are read
+
+-- one event of a run: the world before it, the event, the world behind it and the answer
+pub record Entry : Type 0 where
+  pub before : World
+  pub event : WorldEvent
+  pub after : World
+  pub answer : WorldAnswer
+
+-- an event in a world
+abbrev pub entry_of : World → WorldEvent → Entry
+entry_of world event =
+    record { before = world; event = event; after = (wstep world event).0; answer = (wstep world event).1 }
+
+-- events in turn, from a world on: each in the world behind the one before it
+abbrev pub trace_from : World → List WorldEvent → List Entry
+trace_from world [] = []
+trace_from world (event ∷ rest) = entry_of world event ∷ trace_from (wstep world event).0 rest
+
+-- the trace of a run, from the world without replicas
+abbrev pub trace : List WorldEvent → List Entry
+trace events = trace_from empty_world events
+
+-- the world and the answer of the last entry, or those from before where there is none
+abbrev pub last_of : World × WorldAnswer → List Entry → World × WorldAnswer
+last_of now [] = now
+last_of now (entry ∷ rest) = last_of (entry.after, entry.answer) rest
+
 -- The world after a list of events and the last answer, from a world and the answer before.
 abbrev pub run_from : World × WorldAnswer → List WorldEvent → World × WorldAnswer
-run_from now [] = now
-run_from now (event ∷ rest) = run_from (wstep now.0 event) rest
+run_from now events = last_of now (trace_from now.0 events)
 
 -- the world after a list of events, from the world without replicas
 unfoldable pub wrun : List WorldEvent → World
-wrun events = (run_from (empty_world, Made) events).0
+wrun events = (last_of (empty_world, Made) (trace events)).0
+
+-- ---- proper events, and valid worlds
 
 -- A proper event: its names are names, and what is done to a zone is a command or a part of a pass within their limits. Changes
 -- are merged by the delivery of a packet that was sent, and by nothing else.

@@ -2,8 +2,9 @@
 
 ghost use Rattle.std.specs.Prelude.{List, ℕ};
 ghost use Rattle.dn_world.specs.Datagram.{IsReadRightly, reply_to};
+ghost use Rattle.dn_world.specs.Aging.{TraceAges, nothing_given};
 ghost use Rattle.dn_world.specs.Laws.{AgesRightly, AnswersAlike};
-ghost use Rattle.dn_world.specs.Runs.{AreProper, IsValidWorld, wrun};
+ghost use Rattle.dn_world.specs.Runs.{AreProper, IsValidWorld, trace, wrun};
 ghost use Rattle.dn_world.specs.declared.event.WorldEvent.{WorldEvent};
 ghost use Rattle.dn_world.specs.declared.world.World.{World};
 
@@ -28,13 +29,15 @@ pub fn replicas_answer_alike()
     worlds_stay_valid();
 }
 
-/// The law of aging, in the world behind any events and over each list of events that may happen to one of its zones: before
-/// each step of a pass that isn't void the zone is due at the pass's hour, the records that a step takes away are stale at
-/// that hour and no other record changes, and a finished pass leaves no stale record on a node that nothing else has touched
-/// since it began, but for nodes at their last version, which it counted. A begin, and a step that is void or idle, change
-/// nothing. It stands in the contract, and nothing runs.
+/// The law of aging over the trace of any list of events, from the world without replicas on: each event changes no zone but
+/// the one that it reaches. Before each step of a pass that isn't void that zone is due at the pass's hour, the records that
+/// the step takes away are stale at that hour and no other record changes, and a finished pass leaves no stale record on a
+/// node that nothing else has touched since it began, but for nodes at their last version, which it counted. A begin, and a
+/// step that is void or idle, change no record. The same holds of each zone alone, whatever events may happen to it next.
+/// It stands in the contract, and nothing runs.
 pub fn zones_age_rightly()
-    ensures { (list : List WorldEvent) → AgesRightly (wrun list) }
+    ensures runs { (list : List WorldEvent) → TraceAges nothing_given (trace list) }
+    ensures zones { (list : List WorldEvent) → AgesRightly (wrun list) }
 {}
 
 /// The law that what a replica of a valid world replies to the bytes of a datagram, whatever they are, is read by the grammar

@@ -230,14 +230,14 @@ step_out given zone most both = step_out_by zone.pass given zone most refl both
 
 -- ---- every event, and every list of events
 
-event_both : (given : Given) (zone : Zone) (event : Event) → BothZone given zone → BothZone (given_behind given zone event) (zstep zone event).0
+pub event_both : (given : Given) (zone : Zone) (event : Event) → BothZone given zone → BothZone (given_behind given zone event) (zstep zone event).0
 unfolding zstep
 event_both given zone (events.Admin cmd moment) both = admin_both given zone cmd moment both
 event_both given zone (events.Begin moment) both = begin_both given zone moment both
 event_both given zone (events.Step most) both = (step_out given zone most both).both
 event_both given zone (events.Merge changes) both = merge_both given zone changes both
 
-event_ages : (given : Given) (zone : Zone) (event : Event) → BothZone given zone → EventAges zone given event
+pub event_ages : (given : Given) (zone : Zone) (event : Event) → BothZone given zone → EventAges zone given event
 unfolding zstep
 event_ages given zone (events.Admin cmd moment) both = tt
 event_ages given zone (events.Begin moment) both = begin_leaves zone moment
