@@ -1,8 +1,5 @@
-<<<<<<< HEAD
-pub mod AlikeReplies
-=======
 pub mod AgingRuns
->>>>>>> h-runs
+pub mod AlikeReplies
 pub mod CallerLemmas
 pub mod DatagramLemmas
 pub mod EveryZone
