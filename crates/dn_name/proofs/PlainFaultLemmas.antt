@@ -1,6 +1,6 @@
 -- What is wrong first with a name without pointers.
-use Rattle.std.proofs.Common.{◌≡◌, ℕ, zero, suc, ◌+◌, ◌≤◌, ◌<◌, List, [], ◌∷◌, ◌++◌, length, take, drop, refl, sym, ap, ap₂, subst, ◌∙◌, arith, append_assoc, drop-drop, length-append, length-take-le, take-append-drop}
-use Rattle.dn_name.specs.Name.{Labels, IsLabel, wire_of}
+use Rattle.std.proofs.Common.{◌≡◌, ℕ, zero, suc, ◌+◌, ◌≤◌, ◌<◌, List, [], ◌∷◌, ◌++◌, length, take, drop, refl, sym, ap, ap₂, subst, ◌∙◌, arith, append_assoc, drop-drop, drop_at, length-append, length-take-le, take-append-drop}
+use Rattle.dn_name.specs.Name.{Labels, IsLabel, wire_len, wire_of}
 use Rattle.dn_name.specs.PlainFault.{NoneStands, PlainFault, Cut, Ended, Later, TooLong, TooMany}
 use Rattle.dn_name.specs.declared.error.NameFault.{NameFault}
 use Rattle.dn_name.specs.declared.error.NameFault.TheVariants.{Short, LabelTooLong, NameTooLong}
@@ -47,6 +47,10 @@ module _ (message : List ℕ) (at size : ℕ) (rest : List ℕ) (none : NoneStan
         (subst (λ n. PlainFault message n (size + length (take len rest) + 1) kind place) at_is
         (subst (λ n. PlainFault message (at + (1 + len)) n kind place) size_is fault))
 
+wire_some : (name : Labels) → 1 ≤ wire_len name
+wire_some [] = omega arith
+wire_some (label ∷ name) = omega arith
+
 module _ (message : List ℕ) where
   empty : {at place byte : ℕ} {rest : List ℕ} → at ≡ place → length (drop at message) ≡ 0 → drop place message ≡ byte ∷ rest → ⊥
   empty e none is = omega (arith, none, ap length is, ap (λ k. length (drop k message)) e)
@@ -82,3 +86,26 @@ module _ (message : List ℕ) where
       let same = heads message at_is is is' in
       let label_same : label ≡ label' = same_front label label' rest rest' same.0 same.1 in
       one_plain (omega (arith, at_is, ap length label_same)) (omega (arith, size_is, ap length label_same)) more more'
+
+  -- where a name stands nothing is wrong with it
+  pub no_name : {at size place : ℕ} {kind : NameFault} → PlainFault message at size kind place → NoneStands message at size
+  no_name (Ended none) [] back named most stands = omega (arith, none, ap length stands)
+  no_name (Ended none) (label ∷ name) back named most stands = omega (arith, none, ap length stands)
+  no_name (TooLong byte rest is least) [] back named most stands = omega (arith, (heads message refl is stands).0)
+  no_name (TooLong byte rest is least) (label ∷ name) back named most stands = omega (arith, (heads message refl is stands).0, named.0.1)
+  no_name (TooMany len rest is some few long) [] back named most stands = omega (arith, (heads message refl is stands).0)
+  no_name (TooMany len rest is some few long) (label ∷ name) back named most stands = omega (arith, (heads message refl is stands).0, wire_some name)
+  no_name (Cut len rest is some few fits cut) [] back named most stands = omega (arith, (heads message refl is stands).0)
+  no_name (Cut len rest is some few fits cut) (label ∷ name) back named most stands =
+      let same = heads message refl is stands in
+      omega (arith, same.0, ap length same.1, length-append (label ++ wire_of name) back, length-append label (wire_of name))
+  no_name (Later first rest sized is fits more) [] back named most stands = omega (arith, sized.0, (heads message refl is stands).0)
+  no_name {at} (Later first rest sized is fits more) (label ∷ name) back named most stands =
+      let same = heads message refl is stands in
+      let whole : first ++ rest ≡ label ++ (wire_of name ++ back) = same.1 ∙ append_assoc label (wire_of name) back in
+      let first_is : first ≡ label = same_front first label rest (wire_of name ++ back) same.0 whole in
+      let rest_is : rest ≡ wire_of name ++ back = sym (drop_at first rest (length first) refl) ∙ ap (drop (length first)) whole ∙ drop_at label (wire_of name ++ back) (length first) (sym same.0) in
+      let further : at + 1 + length first ≡ at + suc (length first) = omega arith in
+      let there : drop (at + 1 + length first) message ≡ rest =
+      ap (λ n. drop n message) further ∙ sym (drop-drop (suc (length first)) at message) ∙ ap (drop (suc (length first))) is ∙ drop_at first rest (length first) refl in
+      no_name more name back named.1 (omega (arith, same.0)) (there ∙ rest_is)

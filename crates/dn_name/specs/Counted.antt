@@ -3,7 +3,7 @@
 use Rattle.std.specs.Prelude.{◌≡◌, ℕ, ◌+◌, List, ◌∷◌, ◌++◌, length, drop}
 use Rattle.dn_name.specs.Name.{Labels, IsName, wire_len, wire_of}
 
--- the bytes of a counted name; the zero byte that ends the name is counted
+-- the bytes of a counted name; in this project's profile the zero byte that ends the name is counted
 abbrev pub counted_of : Labels → List ℕ
 counted_of name = wire_len name ∷ (length name ∷ wire_of name)
 

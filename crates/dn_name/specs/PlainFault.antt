@@ -1,7 +1,7 @@
 -- What is wrong first where no name without pointers stands (RFC 1035 2.3.4 and 3.1), read from the front.
 use Rattle.std.specs.Prelude.{◌≡◌, ℕ, ◌+◌, ◌≤◌, ◌<◌, List, ◌∷◌, ◌++◌, length, drop}
 use Rattle.std.specs.List.{AllByRecursion}
-use Rattle.dn_name.specs.Name.{Labels, IsLabel, wire_len, wire_of}
+use Rattle.dn_name.specs.Name.{Labels, IsLabel, IsName, wire_len, wire_of}
 use Rattle.dn_name.specs.declared.error.NameFault.{NameFault}
 use Rattle.dn_name.specs.declared.error.NameFault.TheVariants.{Short, LabelTooLong, NameTooLong}
 
@@ -28,6 +28,11 @@ IsPlainFault message at kind place = PlainFault message at 1 kind place
 -- at a place no labels stand that make a whole name of those that take `size` bytes with a zero byte
 abbrev pub NoneStands : List ℕ → ℕ → ℕ → Type 0
 NoneStands message at size = (name : Labels) (rest : List ℕ) → AllByRecursion IsLabel name → size + wire_len name ≤ 256 → drop at message ≡ wire_of name ++ rest → ⊥
+
+-- where something is wrong with the name without pointers at a place, none stands there
+abbrev pub PlainFaultIsNoName : Type 0
+PlainFaultIsNoName = (message : List ℕ) (at place : ℕ) (kind : NameFault) (name : Labels) (rest : List ℕ) → IsPlainFault message at kind place
+    → IsName name → drop at message ≡ wire_of name ++ rest → ⊥
 
 -- the first fault is one: one kind, and one place
 abbrev pub PlainFaultIsOne : Type 0

@@ -9,8 +9,8 @@ use crate::error::{NameError, NameFault, NoRoom};
 use crate::name::Name;
 
 impl Name {
-    /// Reads the counted name at a place, and answers the place behind it. The root's is `01 00 00`: the zero byte that
-    /// ends a name is counted, so no length is 0 and each name has one spelling.
+    /// Reads the counted name at a place, and answers the place behind it (MS-DNSP 2.2.2.2.2). In this project's profile the
+    /// zero byte that ends a name is counted: the root's is `01 00 00`, so no length is 0 and each name has one spelling.
     ///
     /// # Errors
     /// Exactly where no counted name stands there. The fault is the first one: of the name first, and then of what is said
@@ -36,7 +36,7 @@ impl Name {
         }
     }
 
-    /// Writes the name as a counted name at a place of the buffer, and answers the place after it.
+    /// Writes the name as a counted name at a place of the buffer, and answers the place after it (MS-DNSP 2.2.2.2.2).
     ///
     /// # Errors
     /// `NoRoom` exactly where it would pass the buffer's end. The buffer is then unchanged.

@@ -1,7 +1,7 @@
 //! Laws of how names are spelled in a message (RFC 1035 4.1.4).
 
 ghost use Rattle.dn_name.specs.FirstFault.{FirstFaultIsOne};
-ghost use Rattle.dn_name.specs.PlainFault.{PlainFaultIsOne};
+ghost use Rattle.dn_name.specs.PlainFault.{PlainFaultIsNoName, PlainFaultIsOne};
 ghost use Rattle.dn_name.specs.Spelled.{IsSpelledOnce, PlainIsSpelled, PointersFall, WireIsSpelled};
 
 /// At a place of a message one name is spelled at most, and one place is behind it.
@@ -25,7 +25,8 @@ pub fn first_faults_are_one()
     ensures { FirstFaultIsOne }
 {}
 
-/// What is wrong first with a name without pointers has one kind and one place.
+/// What is wrong first with a name without pointers has one kind and one place, and no such name stands there.
 pub fn plain_faults_are_one()
-    ensures { PlainFaultIsOne }
+    ensures one { PlainFaultIsOne }
+    ensures none { PlainFaultIsNoName }
 {}

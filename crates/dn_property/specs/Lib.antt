@@ -1,5 +1,6 @@
 pub mod FirstFault
 pub mod Hours
+pub mod Ids
 pub mod Laws
 pub mod Numbers
 pub mod Ranges

@@ -1,4 +1,5 @@
--- How a property is stored (MS-DNSP 2.3.2.1): five numbers of four bytes, the content, and a tail of 1 to 4 bytes.
+-- How a property is stored (MS-DNSP 2.3.2.1): five numbers of four bytes, the content, and a tail, which in this
+-- project's profile has 1 to 4 bytes.
 use Rattle.std.specs.Prelude.{◌≡◌, ℕ, ◌≤◌, List, ◌++◌, length}
 use Rattle.dn_property.specs.declared.property.Property.{Property}
 use Rattle.dn_property.specs.declared.stored.Head.{Head}

@@ -2,6 +2,7 @@
 #![tactic(auto)]
 
 mod error;
+pub mod ids;
 mod laws;
 mod number;
 mod property;

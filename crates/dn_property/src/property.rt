@@ -1,15 +1,17 @@
 use dn_io::{Duplicate, List, OutOfMemory};
 use std::alloc::Global;
 
-/// A property of a zone (MS-DNSP 2.3.2.1).
+/// A property of a zone, as dnsProperty keeps it (MS-DNSP 2.3.2.1).
 #[derive(Drop)]
 pub struct Property {
+    /// Kept, and not acted on.
     pub name_length: u32,
+    /// Kept, and not acted on.
     pub flag: u32,
-    /// What the property is about (MS-DNSP 2.3.2.1.1).
+    /// What the property is about: one of [`ids`](crate::ids), or any other number.
     pub id: u32,
     pub content: List<u8>,
-    /// 1 to 4 bytes behind the content, kept and not acted on.
+    /// In this project's profile 1 to 4 bytes behind the content, kept and not acted on.
     pub tail: List<u8>,
 }
 

@@ -3,23 +3,15 @@ ghost use Rattle.dn_property.specs.Hours.{is_due, is_open, is_stale};
 ghost use Rattle.dn_property.specs.Rules.{allow_in, allow_of, data_of, has_id, number_or, rules_of};
 
 use crate::Property;
+use crate::ids::{
+    AGING_ENABLED_TIME, AGING_STATE, ALLOW_UPDATE, NOREFRESH_INTERVAL, REFRESH_INTERVAL,
+};
 use crate::number::number_in;
 
-// The ids of the properties that are acted on (MS-DNSP 2.3.2.1.1).
-const ALLOW_UPDATE: u32 = 0x02;
-
-const NOREFRESH_INTERVAL: u32 = 0x10;
-
-const AGING_ENABLED_TIME: u32 = 0x12;
-
-const REFRESH_INTERVAL: u32 = 0x20;
-
-const AGING_STATE: u32 = 0x40;
-
-// Both intervals in hours, where the zone has none of its own: a week.
+// In this project's profile both intervals in hours, where the zone has none of its own: a week.
 const DEFAULT_INTERVAL: u32 = 168;
 
-/// What a zone's properties say of updates and of aging.
+/// What a zone's properties say of updates and of aging (MS-DNSP 2.3.2.1.1).
 #[derive(Clone, Copy, Debug, PartialEq, Eq)]
 pub struct ZoneRules {
     /// Which dynamic updates are taken: 0 none, 1 all, 2 secure ones alone.
@@ -54,7 +46,7 @@ fn number_or(default: u32, id: u32, list: &[Property]) -> u32
     data_of(id, list).and_then(number_in).unwrap_or(default)
 }
 
-// Which updates the data of one byte or of four says.
+// Which updates the data says: in this project's profile one byte or four, and a number that isn't known allows none.
 fn allow_in(content: &[u8]) -> u8
     ensures { result ≡ allow_in content.now }
 {
@@ -78,9 +70,9 @@ fn allow_of(list: &[Property]) -> u8
     }
 }
 
-/// The rules that a zone's properties give. Of several properties of one id the first counts; data of a length that
-/// isn't its property's counts as if the property weren't there. The defaults: no updates, no aging, both intervals 168
-/// hours, removal from hour 0 on.
+/// The rules that a zone's properties give (MS-DNSP 2.3.2.1.1). In this project's profile the first of several properties of
+/// one id counts, data of a length that isn't its property's counts as if the property weren't there, ALLOW_UPDATE has one
+/// byte or four, and the defaults are no updates, no aging, both intervals 168 hours, and removal from hour 0 on.
 pub fn rules_of(list: &[Property]) -> ZoneRules
     ensures { result ≡ rules_of list.now }
 {

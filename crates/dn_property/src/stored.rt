@@ -1,4 +1,5 @@
-//! Properties as they are stored (MS-DNSP 2.3.2.1): a head of five numbers, the content, and a tail of 1 to 4 bytes.
+//! Properties as they are stored (MS-DNSP 2.3.2.1): a head of five numbers, the content, and a tail, which has 1 to 4 bytes in
+//! this project's profile.
 
 ghost use Rattle.std.specs.Prelude.{◌≡◌, ◌<◌, ◌≤◌, ◌^◌, ◌++◌, length, IfErr, IfNone, IfOk, IfSome, OnOk};
 ghost use Rattle.dn_property.specs.FirstFault.{FirstFault};
@@ -21,7 +22,7 @@ const HEAD_LEN: usize = 20;
 
 const VERSION_PLACE: usize = 12;
 
-// How many bytes the tail has at least and at most.
+// How many bytes the tail has at least and at most, in this project's profile.
 const LEAST_TAIL: usize = 1;
 
 const MOST_TAIL: usize = 4;
@@ -36,7 +37,7 @@ pub(crate) struct Head {
     pub(crate) id: u32,
 }
 
-/// The property that the bytes are, all of them.
+/// The property that the bytes are, all of them (MS-DNSP 2.3.2.1).
 ///
 /// # Errors
 /// `Bad` where they are none, with the kind and the place of what is wrong first: the head is cut, the version isn't 1,
@@ -121,7 +122,7 @@ fn cut(bytes: &[u8]) -> PropertyError
     }
 }
 
-/// The bytes that are this property. Its content has at most 4,294,967,295 bytes, and its tail 1 to 4.
+/// The bytes that are this property (MS-DNSP 2.3.2.1). Its content has at most 4,294,967,295 bytes, and its tail 1 to 4.
 ///
 /// # Errors
 /// `OutOfMemory`.

@@ -1,4 +1,5 @@
 pub mod CallerLemmas
+pub mod FaultLemmas
 pub mod FoldedLemmas
 pub mod LaidLemmas
 pub mod MadeData

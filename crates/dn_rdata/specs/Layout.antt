@@ -91,6 +91,10 @@ abbrev pub DataFailsAt : ℕ → List ℕ → ℕ → Type 0
 DataFailsAt rtype bytes place =
     ((are_fixed (parts_of rtype) ≡ true) × (place ≡ 0)) ⊎ ((are_fixed (parts_of rtype) ≡ false) × FailsAt bytes 0 (parts_of rtype) place)
 
+-- bytes go wrong at one place
+abbrev pub DataFailsOnce : Type 0
+DataFailsOnce = (rtype : ℕ) (bytes : List ℕ) (place other : ℕ) → DataFailsAt rtype bytes place → DataFailsAt rtype bytes other → place ≡ other
+
 -- how many of the parts are names
 abbrev pub names_among : List Part → ℕ
 names_among [] = 0

@@ -4,12 +4,12 @@
 ghost use Rattle.std.specs.Prelude.{ℕ};
 ghost use Rattle.dn_rdata.specs.Folding.{NamesAreFolded, OthersAreFolded};
 ghost use Rattle.dn_rdata.specs.Laid.{IsLaidOnce, LaidIsWire, WireIsLaid};
-ghost use Rattle.dn_rdata.specs.Layout.{NamesAgree};
+ghost use Rattle.dn_rdata.specs.Layout.{DataFailsOnce, NamesAgree};
 ghost use Rattle.dn_rdata.specs.Rows.{RowsAreOrdered, RowsDiffer, RowsStay};
 ghost use Rattle.dn_rdata.specs.Stored.{DataAreStored, StoredIsData, StoredIsReadOnce, StoredIsSized, StoredIsWrittenOnce};
 ghost use Rattle.dn_rdata.specs.Views.{ViewsAreOne};
 
-use dn_name::names_are_spelled_once;
+use dn_name::{names_are_spelled_once, plain_faults_are_one};
 
 /// Data that are valid for their type lie in any message wherever their bytes stand, so that what a writer put there is
 /// read back; and what lies in a message is valid for its type once its names are written out.
@@ -23,6 +23,13 @@ pub fn data_are_laid_once()
     ensures { IsLaidOnce }
 {
     names_are_spelled_once()
+}
+
+/// Bytes that aren't data of a type go wrong at one place.
+pub fn data_fail_once()
+    ensures { DataFailsOnce }
+{
+    plain_faults_are_one()
 }
 
 /// What is said of the names in a type's data, how many there are and what stands before and behind them, agrees with the

@@ -17,8 +17,8 @@ mod wire;
 pub use check::{DataFault, check_rdata};
 pub use data::{minimum_of, number_of_bytes, target_of};
 pub use laws::{
-    data_are_laid_once, names_agree_with_parts, names_in_data_are_folded, rows_are_ordered,
-    stored_data_are_spelled_once, valid_data_are_laid, views_are_one,
+    data_are_laid_once, data_fail_once, names_agree_with_parts, names_in_data_are_folded,
+    rows_are_ordered, stored_data_are_spelled_once, valid_data_are_laid, views_are_one,
 };
 pub use order::{
     bytes_before_names, bytes_behind_names, compare_rows, names_in, row_order, same_rdata,

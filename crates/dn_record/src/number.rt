@@ -1,7 +1,7 @@
 //! Numbers of two and four bytes at the front of others.
 
 ghost use Rattle.std.specs.Prelude.{◌≡◌, ◌<◌, ◌∷◌, ◌++◌, length, IfNone, IfSome};
-ghost use Rattle.dn_record.specs.Fields.{four_big, four_little, two_big, two_little};
+ghost use Rattle.dn_record.specs.Fields.{four_big, four_little, two_little};
 
 // The byte at the front, and the bytes behind it.
 pub(crate) fn first_byte(bytes: &[u8]) -> Option<(u8, &[u8])>
@@ -18,7 +18,7 @@ pub(crate) fn first_u16(bytes: &[u8]) -> Option<(u16, &[u8])>
     ensures none { IfNone result (length bytes.now < 2) }
 {
     match bytes {
-        [low, high, rest @ ..] => Some((256 * u16::from(*high) + u16::from(*low), rest)),
+        [low, high, rest @ ..] => Some((u16::from_le_bytes([*low, *high]), rest)),
         _ => None,
     }
 }
@@ -28,18 +28,10 @@ pub(crate) fn first_u32(bytes: &[u8]) -> Option<(u32, &[u8])>
     ensures found { IfSome result (λ found. bytes.now ≡ four_little found.0 ++ found.1.now) }
     ensures none { IfNone result (length bytes.now < 4) }
 {
-    let (low, rest) = first_u16(bytes)?;
-    let (high, rest) = first_u16(rest)?;
-    Some((65536 * u32::from(high) + u32::from(low), rest))
-}
-
-// The number of two bytes, the high one first, and the bytes behind it.
-fn first_big_u16(bytes: &[u8]) -> Option<(u16, &[u8])>
-    ensures found { IfSome result (λ found. bytes.now ≡ two_big found.0 ++ found.1.now) }
-    ensures none { IfNone result (length bytes.now < 2) }
-{
     match bytes {
-        [high, low, rest @ ..] => Some((256 * u16::from(*high) + u16::from(*low), rest)),
+        [low, second, third, high, rest @ ..] => {
+            Some((u32::from_le_bytes([*low, *second, *third, *high]), rest))
+        }
         _ => None,
     }
 }
@@ -49,40 +41,31 @@ pub(crate) fn first_big_u32(bytes: &[u8]) -> Option<(u32, &[u8])>
     ensures found { IfSome result (λ found. bytes.now ≡ four_big found.0 ++ found.1.now) }
     ensures none { IfNone result (length bytes.now < 4) }
 {
-    let (high, rest) = first_big_u16(bytes)?;
-    let (low, rest) = first_big_u16(rest)?;
-    Some((65536 * u32::from(high) + u32::from(low), rest))
+    match bytes {
+        [high, second, third, low, rest @ ..] => {
+            Some((u32::from_be_bytes([*high, *second, *third, *low]), rest))
+        }
+        _ => None,
+    }
 }
 
 // A number as two bytes, the low one first.
 pub(crate) fn two_little(number: u16) -> [u8; 2]
     ensures { result ≡ two_little number }
 {
-    [(number % 256) as u8, (number / 256) as u8]
+    number.to_le_bytes()
 }
 
 // A number as four bytes, the low one first.
 pub(crate) fn four_little(number: u32) -> [u8; 4]
     ensures { result ≡ four_little number }
 {
-    let (low, high) = (number % 65536, number / 65536);
-    [
-        (low % 256) as u8,
-        (low / 256) as u8,
-        (high % 256) as u8,
-        (high / 256) as u8,
-    ]
+    number.to_le_bytes()
 }
 
 // A number as four bytes, the high one first.
 pub(crate) fn four_big(number: u32) -> [u8; 4]
     ensures { result ≡ four_big number }
 {
-    let (high, low) = (number / 65536, number % 65536);
-    [
-        (high / 256) as u8,
-        (high % 256) as u8,
-        (low / 256) as u8,
-        (low % 256) as u8,
-    ]
+    number.to_be_bytes()
 }
