@@ -1,6 +1,7 @@
 pub mod AgingRuns
 pub mod CallerLemmas
 pub mod DatagramLemmas
+pub mod DifferLemmas
 pub mod EveryZone
 pub mod RepliesRead
 pub mod RunLemmas
