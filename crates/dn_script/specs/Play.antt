@@ -61,7 +61,7 @@ after_event script after = do
   output ← output_of after.1
   Some (record script { world = after.0 }, output)
 
--- events in turn: the world behind them, and the line of output of the last answer
+-- events in turn: the world of the last entry of their trace, and the line of output of its answer
 unfoldable pub run_events : Script → List WorldEvent → Step
 run_events script events = after_event script (run_from (script.world, world.Made) events)
 

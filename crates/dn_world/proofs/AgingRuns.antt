@@ -14,7 +14,7 @@ use Rattle.dn_world.specs.Runs.{trace, trace_from}
 use Rattle.dn_world.specs.World.{empty_world, wstep}
 use Rattle.dn_world.proofs.EveryZone.{new_holds}
 use Rattle.dn_world.proofs.SlotLemmas.{get_other, get_set}
-use Rattle.dn_world.proofs.ZoneMoves.{Acts, Adds, Grows, IsNew, Moves, Stays, event_moves}
+use Rattle.dn_world.proofs.ZoneMoves.{Adds, Grows, IsNew, Moves, Stays, event_moves}
 
 -- ---- what holds at each place: the zone there is sound by what was given, and where no zone is nothing was given
 

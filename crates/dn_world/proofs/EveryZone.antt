@@ -14,7 +14,7 @@ use Rattle.dn_world.specs.Laws.{AgesRightly}
 use Rattle.dn_world.specs.Runs.{run_from, wrun}
 use Rattle.dn_world.specs.World.{empty_world, wstep}
 use Rattle.dn_world.proofs.SlotLemmas.{all_get, all_one_more, all_set}
-use Rattle.dn_world.proofs.ZoneMoves.{Acts, Adds, Grows, IsCreated, IsJoined, IsNew, Moves, Stays, event_moves}
+use Rattle.dn_world.proofs.ZoneMoves.{Adds, Grows, IsCreated, IsJoined, IsNew, Moves, Stays, event_moves}
 
 module _ (P : Zone → Type 0) (keeping : Keeping P) where
   abbrev pub All : World → Type 0

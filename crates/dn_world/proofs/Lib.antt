@@ -2,6 +2,7 @@ pub mod AgingRuns
 pub mod AlikeReplies
 pub mod CallerLemmas
 pub mod DatagramLemmas
+pub mod DifferLemmas
 pub mod EveryZone
 pub mod RepliesRead
 pub mod RunLemmas

@@ -1,5 +1,5 @@
 -- What an event of a world does to its zones: one zone's own event at its place, or at most a new zone behind them.
-use Rattle.std.proofs.Common.{◌≡◌, ◌⊎◌, inl, inr, ℕ, zero, suc, Bool, true, false, cond, List, [], ◌∷◌, ◌++◌, Option, None, Some, refl}
+use Rattle.std.proofs.Common.{◌≡◌, ℕ, Bool, true, false, cond, List, [], ◌∷◌, ◌++◌, Option, None, Some, refl}
 use Rattle.std.specs.Prelude.{position, slice_get, slice_set, nat_le, length}
 use Rattle.std.specs.List.{list_any}
 use Rattle.dn_io.specs.Options.{◌>>=◌}
@@ -23,7 +23,7 @@ use Rattle.dn_world.specs.declared.world.Post.{Post}
 use Rattle.dn_world.specs.declared.world.Replica.{Replica}
 use Rattle.dn_world.specs.declared.world.World.{World}
 use Rattle.dn_world.specs.Aging.{Arrival, arrival_at, arrival_of, arrival_with}
-use Rattle.dn_world.specs.World.{act_at, act_in, answer_pull, deliver_post, deliver_to, has_id, is_zone, no_room, packet_limit, post_at, pull_between, sent, wstep, wstep_act, wstep_pull, wstep_replica, wstep_zone, zone_of, zone_unless}
+use Rattle.dn_world.specs.World.{act_at, act_in, answer_pull, deliver_post, deliver_to, has_id, is_zone, no_room, packet_limit, post_at, pull_between, replica_limit, sent, wstep, wstep_act, wstep_pull, wstep_replica, wstep_zone, zone_of, zone_unless}
 
 -- a new zone: one that was created or joined
 pub data IsNew (zone : Zone) : Type 0 where
@@ -56,7 +56,7 @@ replica_made : (world : World) (id : ReplicaId) (host : Labels) → Grows world.
 unfolding wstep_replica
 replica_made world id host =
     either_stays (list_any (has_id id) world.replicas) world _ _ (Stays refl)
-    (either_stays (nat_le 64 (length world.replicas)) world _ _ (Stays refl) (Stays refl))
+    (either_stays (nat_le replica_limit (length world.replicas)) world _ _ (Stays refl) (Stays refl))
 
 unless_by : (why : Option WorldNo) (world : World) (zone : Zone) → IsNew zone → Grows world.zones (zone_unless why world zone).0.zones
 unless_by None world zone new = Adds zone new refl

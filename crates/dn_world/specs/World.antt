@@ -36,6 +36,10 @@ is_of id zone = is_id zone.id id
 abbrev pub is_zone : ReplicaId → Labels → Zone → Bool
 is_zone id apex zone = is_of id zone && is_same zone.apex apex
 
+-- the replica has a zone with this apex
+abbrev pub has_zone : List Zone → ReplicaId → Labels → Bool
+has_zone zones id apex = list_any (is_zone id apex) zones
+
 -- the world without replicas
 unfoldable pub empty_world : World
 empty_world = record { replicas = []; zones = []; packets = [] }
@@ -49,18 +53,25 @@ with_zone world zone = record world { zones = world.zones ++ zone ∷ [] }
 abbrev pub set_zone : World → ℕ → Zone → World
 set_zone world at zone = record world { zones = slice_set world.zones at zone }
 
+-- the most replicas of a world, and the most zones of a replica
+abbrev pub replica_limit : ℕ
+replica_limit = 64
+
+abbrev pub zone_limit : ℕ
+zone_limit = 16
+
 -- a new replica
 unfoldable pub wstep_replica : World → ReplicaId → Labels → World × WorldAnswer
 wstep_replica world id host =
     if list_any (has_id id) world.replicas then (world, No IdTaken)
-    else (if nat_le 64 (length world.replicas) then (world, No Full)
+    else (if nat_le replica_limit (length world.replicas) then (world, No Full)
     else (with_replica world (record { id = id; host = host }), Made))
 
 -- why a replica can't have a new zone with this apex
 abbrev pub no_room : World → ReplicaId → Labels → Option WorldNo
 no_room world id apex =
-    if list_any (is_zone id apex) world.zones then Some ZoneThere
-    else (if nat_le 16 (count_by (is_of id) world.zones) then Some Full else None)
+    if has_zone world.zones id apex then Some ZoneThere
+    else (if nat_le zone_limit (count_by (is_of id) world.zones) then Some Full else None)
 
 abbrev pub zone_unless : Option WorldNo → World → Zone → World × WorldAnswer
 zone_unless (Some why) world zone = (world, No why)

@@ -11,8 +11,10 @@ ghost use Rattle.dn_world.specs.declared.world.World.{World};
 use dn_answer::{answers_are_sendable, equal_replicas_answer_alike};
 use dn_message::replies_are_spelled_once;
 
-/// The law that proper events, in any order, run to a valid world: each host is a name, each zone is valid and so is each
-/// packet that was sent. It stands in the contract, and nothing runs.
+/// The law that proper events, in any order, run to a valid world: replicas have different ids and hosts that are names; each
+/// zone is valid and belongs to a replica, which has no other with the same apex; each packet that was sent is valid, and its
+/// sender and its receiver are two replicas that have its zone; and there are no more of them than the limits say. It stands
+/// in the contract, and nothing runs.
 pub fn worlds_stay_valid()
     ensures { (list : List WorldEvent) → AreProper list → IsValidWorld (wrun list) }
 {}

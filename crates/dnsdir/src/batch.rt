@@ -76,8 +76,10 @@ pub fn batch<S: Source, K: Sink>(
     // which each but the last is answered `moved`, and the last isn't.
     ensures passes { (list : List WorldEvent) → PassesAreWhole (wrun list) }
 
-    // Each host is a name, each zone is valid (its units for its apex, their data for their types, under names, with different
-    // numbers up to its change count), and so is each packet that was sent.
+    // Replicas have different ids and hosts that are names. Each zone is valid (its units for its apex, their data for their
+    // types, under names, with different numbers up to its change count) and belongs to a replica, which has no other with the
+    // same apex. Each packet that was sent is valid, from one replica to another, and both have its zone. There are at most 64
+    // replicas, 16 zones of a replica and 2^32 - 1 packets.
     ensures valid { (list : List WorldEvent) → AreProper list → IsValidWorld (wrun list) }
 
     // What a replica there replies to the bytes of a datagram, whatever they are, is read by the grammar of replies as what it
