@@ -1,10 +1,8 @@
 pub mod AlikeReplies
 pub mod CallerLemmas
-pub mod DatagramLemmas
 pub mod EveryZone
-pub mod RepliesRead
 pub mod RunLemmas
 pub mod SlotLemmas
-pub mod ToldLemmas
 pub mod ValidWorld
+pub mod ViewLemmas
 pub mod WorldLemmas

@@ -7,8 +7,7 @@ ghost use Rattle.dn_world.specs.Runs.{AreProper, IsValidWorld, wrun};
 ghost use Rattle.dn_world.specs.declared.event.WorldEvent.{WorldEvent};
 ghost use Rattle.dn_world.specs.declared.world.World.{World};
 
-use dn_answer::{answers_are_sendable, equal_replicas_answer_alike};
-use dn_message::replies_are_spelled_once;
+use dn_answer::{answers_are_sendable, equal_replicas_reply_alike};
 
 /// The law that proper events, in any order, run to a valid world: each host is a name, each zone is valid and so is each
 /// packet that was sent. It stands in the contract, and nothing runs.
@@ -22,9 +21,7 @@ pub fn worlds_stay_valid()
 pub fn replicas_answer_alike()
     ensures { (list : List WorldEvent) → AreProper list → AnswersAlike (wrun list) }
 {
-    answers_are_sendable();
-    equal_replicas_answer_alike();
-    replies_are_spelled_once();
+    equal_replicas_reply_alike();
     worlds_stay_valid();
 }
 
