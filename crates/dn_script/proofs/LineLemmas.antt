@@ -3,13 +3,14 @@ use Rattle.std.proofs.Common.{◌≡◌, ℕ, if◌then◌else◌, List, [], ◌
 use Rattle.std.specs.Prelude.{slice_get}
 use Rattle.dn_io.specs.Options.{◌>>=◌}
 use Rattle.dn_name.specs.Name.{Labels}
+use Rattle.dn_answer.specs.Datagram.{wants_more}
 use Rattle.dn_word.specs.Print.{as_line}
 use Rattle.dn_world.specs.declared.event.WorldAnswer.{WorldAnswer}
 use Rattle.dn_world.specs.declared.event.WorldAnswer.TheVariants.{Made}
 use Rattle.dn_world.specs.declared.event.WorldEvent.TheVariants.{Deliver}
 use Rattle.dn_world.specs.declared.world.World.{World}
 use Rattle.dn_world.specs.Ask.{world_reply}
-use Rattle.dn_world.specs.Datagram.{reply_to, wants_more}
+use Rattle.dn_world.specs.Datagram.{received_at, reply_to}
 use Rattle.dn_world.specs.Runs.{run_from}
 use Rattle.dn_script.specs.declared.bad.Bad.{Bad}
 use Rattle.dn_script.specs.declared.bad.Bad.TheVariants as bad
@@ -77,6 +78,6 @@ ask_line script replica name qtype = refl
 pub udp_line : (script : Script) (replica bytes : List ℕ)
     → run_line script (lines.Udp replica bytes)
     ≡ (replica_number script replica >>= λ at. slice_get script.world.replicas at >>= λ there.
-    if wants_more script.world at bytes then None else Some (script, as_line (datagram_text (reply_to script.world at bytes))))
+    if wants_more (received_at script.world at bytes) then None else Some (script, as_line (datagram_text (reply_to script.world at bytes))))
 unfolding run_line events_of run_events besides output_of
 udp_line script replica bytes = refl

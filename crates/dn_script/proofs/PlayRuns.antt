@@ -3,6 +3,7 @@ use Rattle.std.proofs.Common.{◌≡◌, ℕ, ◌+◌, Bool, true, false, cond, 
 use Rattle.std.specs.Prelude.{OnOk, slice_get}
 use Rattle.dn_io.specs.Lines.{RawLine, is_overlong, lines_of, size_of, text_of}
 use Rattle.dn_io.specs.Options.{◌>>=◌}
+use Rattle.dn_answer.specs.Datagram.{wants_more}
 use Rattle.dn_word.specs.Words.{words_of}
 use Rattle.dn_word.proofs.CallerLemmas.{bound, chosen, given_is}
 use Rattle.dn_world.specs.declared.event.WorldAnswer.{WorldAnswer}
@@ -10,7 +11,7 @@ use Rattle.dn_world.specs.declared.event.WorldAnswer.TheVariants.{Made}
 use Rattle.dn_world.specs.declared.event.WorldEvent.{WorldEvent}
 use Rattle.dn_world.specs.declared.world.World.{World}
 use Rattle.dn_world.specs.Ask.{world_reply}
-use Rattle.dn_world.specs.Datagram.{reply_to, wants_more}
+use Rattle.dn_world.specs.Datagram.{received_at, reply_to}
 use Rattle.dn_world.specs.Runs.{AreProper, IsValidWorld, run_from, wrun}
 use Rattle.dn_world.proofs.CallerLemmas.{run_keeps, run_then, run_valid, run_world}
 use Rattle.dn_script.specs.declared.bad.Bad.{Bad}
@@ -46,7 +47,7 @@ besides_same (lines.Ask replica name qtype) now after is =
 besides_same (lines.Udp replica bytes) now after is =
     bound (InWorld now.0.world) (replica_number now.0 replica) _
     (λ at there. bound (InWorld now.0.world) (slice_get now.0.world.replicas at) _
-    (λ found known. chosen (InWorld now.0.world) (wants_more now.0.world at bytes) None _ (λ one none. absurd (cc))
+    (λ found known. chosen (InWorld now.0.world) (wants_more (received_at now.0.world at bytes)) None _ (λ one none. absurd (cc))
     (λ one replies. given_is (InWorld now.0.world) (sent_back now (reply_to now.0.world at bytes)) one refl replies))) after is
 
 ran_same : (script : Script) (line : ScriptLine) (list : List WorldEvent) (after : Script × List ℕ) → (run_events script list >>= besides line) ≡ Some after

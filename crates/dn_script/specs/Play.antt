@@ -11,6 +11,7 @@ use Rattle.dn_io.specs.Moments.{first_moment}
 use Rattle.dn_io.specs.Options.{◌>>=◌}
 use Rattle.dn_io.specs.Outside.{AppendsFront}
 use Rattle.dn_answer.specs.declared.reply.AnswerValue.{AnswerValue}
+use Rattle.dn_answer.specs.Datagram.{wants_more}
 use Rattle.dn_zone.specs.declared.event.Event.TheVariants.{Admin}
 use Rattle.dn_world.specs.declared.event.WorldAnswer.{WorldAnswer}
 use Rattle.dn_world.specs.declared.event.WorldAnswer.TheVariants as world
@@ -18,7 +19,7 @@ use Rattle.dn_world.specs.declared.event.WorldEvent.{WorldEvent}
 use Rattle.dn_world.specs.declared.event.WorldEvent.TheVariants.{Act, Create, Deliver, Join, Pull, Replica}
 use Rattle.dn_world.specs.declared.world.World.{World}
 use Rattle.dn_world.specs.Ask.{world_reply}
-use Rattle.dn_world.specs.Datagram.{reply_to, wants_more}
+use Rattle.dn_world.specs.Datagram.{received_at, reply_to}
 use Rattle.dn_world.specs.Runs.{run_from}
 use Rattle.dn_world.specs.World.{empty_world}
 use Rattle.dn_word.specs.Print.{as_line}
@@ -125,7 +126,7 @@ besides (lines.Ask replica name qtype) after = do
 besides (lines.Udp replica bytes) after = do
   at ← replica_number after.0 replica
   there ← slice_get after.0.world.replicas at
-  if wants_more after.0.world at bytes then None else Some (sent_back after (reply_to after.0.world at bytes))
+  if wants_more (received_at after.0.world at bytes) then None else Some (sent_back after (reply_to after.0.world at bytes))
 
 -- a line runs its events
 unfoldable pub run_line : Script → ScriptLine → Step

@@ -12,6 +12,7 @@ use crate::print::{datagram_line, packet_line};
 use crate::print_reply::reply_text;
 use crate::words::work_of;
 use dn_admin::answer_line;
+use dn_answer::write_reply;
 use dn_io::{List, Moment};
 use dn_name::Name;
 use dn_stamp::ReplicaId;
@@ -211,13 +212,12 @@ impl Script {
         if at >= self.world.replicas.len() {
             return Err(Bad::Line);
         }
-        if self.world.wants_more(at, bytes) {
+        let received = self.world.received(at, bytes);
+        if received.wants_more() {
             return Err(Bad::Line);
         }
         let mut out = [0u8; 512];
-        let len = self
-            .world
-            .datagram(alloc, at, self.moment, bytes, &mut out)?;
+        let len = write_reply(alloc, &received, bytes, &mut out)?;
         let (reply, _) = out.split_at(len);
         Ok(datagram_line(alloc, reply)?)
     }

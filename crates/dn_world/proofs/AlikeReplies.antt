@@ -1,43 +1,37 @@
--- Zones with the same units reply alike, in bytes.
-use Rattle.std.proofs.Common.{◌≡◌, ℕ, Bool, true, false, if◌then◌else◌, List, refl, ap, subst}
-use Rattle.dn_name.specs.Name.{IsName}
+-- Replicas of a valid world reply alike where the zones that a query reaches have the same units.
+use Rattle.std.proofs.Common.{◌≡◌, ℕ, List, refl, subst, sym}
 use Rattle.dn_message.specs.declared.query.Query.{Query}
-use Rattle.dn_message.specs.declared.rcode.Rcode.TheVariants.{Refused}
-use Rattle.dn_message.specs.Laws.{IsReplyOnce}
-use Rattle.dn_message.specs.Pieces.{bytes_of}
-use Rattle.dn_message.specs.Short.{short_bytes, short_of}
-use Rattle.dn_message.proofs.CallerLemmas.{short_read}
-use Rattle.dn_answer.specs.declared.reply.AnswerValue.{AnswerValue}
-use Rattle.dn_answer.specs.Alike.{AreAlike, ReadAlike}
-use Rattle.dn_answer.specs.Sendable.{AnswersAreSendable, IsSendable, sent}
-use Rattle.dn_answer.proofs.CallerLemmas.{read_alike, sent_alike}
-use Rattle.dn_zone.specs.declared.zone.Zone.{Zone}
+use Rattle.dn_answer.specs.declared.datagrams.Received.{Received}
+use Rattle.dn_answer.specs.declared.datagrams.Received.TheVariants.{Answer}
+use Rattle.dn_answer.specs.Alike.{AreEqual, EqualReplyAlike, ReadAlike}
+use Rattle.dn_answer.specs.Datagram.{IsRepliable, reply_bytes, zone_bytes}
+use Rattle.dn_answer.specs.View.{ZoneSeen}
 use Rattle.dn_zone.specs.Valid.{IsValidZone}
-use Rattle.dn_zone.proofs.CallerLemmas.{zone_data, zone_named}
-use Rattle.dn_world.specs.Ask.{zone_reply}
-use Rattle.dn_world.specs.Datagram.{is_refusal, zone_bytes}
-use Rattle.dn_world.specs.Laws.{replied}
+use Rattle.dn_world.specs.declared.world.World.{World}
+use Rattle.dn_world.specs.Datagram.{received_at, reply_to, view_of}
+use Rattle.dn_world.specs.Laws.{AnswersAlike}
+use Rattle.dn_world.specs.Runs.{IsValidWorld}
+use Rattle.dn_world.proofs.EveryZone.{holds_among}
+use Rattle.dn_world.proofs.ViewLemmas.{datagram_repliable, zone_servable}
 
-module _ (once : IsReplyOnce) (request : List ℕ) (query : Query) (named : IsName query.name) where
-  -- a refusal is the same header from each zone
-  by_code : (refuses : Bool) (left right : AnswerValue) → IsSendable query.name left → IsSendable query.name right → AreAlike left right
-      → ReadAlike (if refuses then short_bytes request Refused else bytes_of (sent query left)) (if refuses then short_bytes request Refused else bytes_of (sent query right))
-  by_code true left right is also same =
-      let short : List ℕ = short_bytes request Refused in
-      read_alike once short short (short_of request Refused) (short_of request Refused) (short_read short request Refused refl) (short_read short request Refused refl) refl
-  by_code false left right is also same = sent_alike once query left right named is also same
+module _ (alike : EqualReplyAlike) (request : List ℕ) (query : Query) (left right : ZoneSeen) (equal : AreEqual left right) where
+  bytes_alike : (one other : Received) → one ≡ Answer left query → other ≡ Answer right query → IsRepliable request one → IsRepliable request other
+      → ReadAlike (reply_bytes request one) (reply_bytes request other)
+  bytes_alike one other is also can can_other =
+      let first : IsRepliable request (Answer left query) = subst (IsRepliable request) is can in
+      let second : IsRepliable request (Answer right query) = subst (IsRepliable request) also can_other in
+      let same : ReadAlike (zone_bytes request left query) (zone_bytes request right query) = alike left right first.1 second.1 equal request query first.2 in
+      subst (λ it. ReadAlike (reply_bytes request it) (reply_bytes request other)) (sym is)
+      (subst (λ it. ReadAlike (zone_bytes request left query) (reply_bytes request it)) (sym also) same)
 
-  -- answers that are alike have one code
-  bytes_alike : (left right : AnswerValue) → IsSendable query.name left → IsSendable query.name right → AreAlike left right
-      → ReadAlike (zone_bytes request query left) (zone_bytes request query right)
-  bytes_alike left right is also same =
-      subst (λ (refuses : Bool). ReadAlike (zone_bytes request query left) (if refuses then short_bytes request Refused else bytes_of (sent query right)))
-      (ap (λ (value : AnswerValue). is_refusal value.rcode) same) (by_code (is_refusal left.rcode) left right is also same)
-
-  pub zones_alike : AnswersAreSendable → (left right : Zone) → IsValidZone left → IsValidZone right
-      → AreAlike (zone_reply left query.name query.qtype) (zone_reply right query.name query.qtype)
-      → ReadAlike (replied left request query) (replied right request query)
-  zones_alike sendable left right valid also same =
-      bytes_alike (zone_reply left query.name query.qtype) (zone_reply right query.name query.qtype)
-      (sendable left.table left.apex left.host query.name query.qtype valid.host named (zone_data left valid) (zone_named left valid))
-      (sendable right.table right.apex right.host query.name query.qtype also.host named (zone_data right also) (zone_named right also)) same
+pub world_alike : EqualReplyAlike → (world : World) → IsValidWorld world → AnswersAlike world
+world_alike alike world valid =
+    record {
+      zones = λ left right one other equal request query is.
+          alike (view_of left) (view_of right)
+          (zone_servable left (holds_among IsValidZone world.zones left one.0 valid.zones one.1 one.2))
+          (zone_servable right (holds_among IsValidZone world.zones right other.0 valid.zones other.1 other.2)) equal request query is.name_spelled.0;
+      replicas = λ at other request query left right is also equal.
+          bytes_alike alike request query left right equal (received_at world at request) (received_at world other request) is also
+          (datagram_repliable world valid at request) (datagram_repliable world valid other request);
+    }

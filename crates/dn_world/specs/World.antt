@@ -163,22 +163,3 @@ wstep world (events.Join at apex) =
     wstep_zone world (slice_get world.replicas at) apex (λ replica. joined_zone replica.id replica.host apex)
 wstep world (events.Pull by of apex) = wstep_pull world (slice_get world.replicas by) (slice_get world.replicas of) apex
 wstep world (events.Deliver number) = deliver_post world (post_at world.packets number)
-
--- ---- the zone that answers a question
-
--- a zone of this replica covers a name that is under its apex
-unfoldable pub covers : ReplicaId → Labels → Zone → Bool
-covers id name zone = is_of id zone && is_under name zone.apex
-
-abbrev pub nearer : Zone → Option Zone → Option Zone
-nearer zone None = Some zone
-nearer zone (Some other) = if nat_lt (length zone.apex) (length other.apex) then Some other else Some zone
-
--- of the zones the one with the longest apex, by number of labels, the first of these
-unfoldable pub nearest : List Zone → Option Zone
-nearest [] = None
-nearest (zone ∷ zones) = nearer zone (nearest zones)
-
--- the zone of a replica that answers for a name
-unfoldable pub zone_for : World → ReplicaId → Labels → Option Zone
-zone_for world id name = nearest (filter (covers id name) world.zones)

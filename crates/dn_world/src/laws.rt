@@ -8,8 +8,7 @@ ghost use Rattle.dn_world.specs.Runs.{AreProper, IsValidWorld, trace, wrun};
 ghost use Rattle.dn_world.specs.declared.event.WorldEvent.{WorldEvent};
 ghost use Rattle.dn_world.specs.declared.world.World.{World};
 
-use dn_answer::{answers_are_sendable, equal_replicas_answer_alike};
-use dn_message::replies_are_spelled_once;
+use dn_answer::{answers_are_sendable, equal_replicas_reply_alike};
 
 /// The law that proper events, in any order, run to a valid world: replicas have different ids and hosts that are names; each
 /// zone is valid and belongs to a replica, which has no other with the same apex; each packet that was sent is valid, and its
@@ -25,9 +24,7 @@ pub fn worlds_stay_valid()
 pub fn replicas_answer_alike()
     ensures { (list : List WorldEvent) → AreProper list → AnswersAlike (wrun list) }
 {
-    answers_are_sendable();
-    equal_replicas_answer_alike();
-    replies_are_spelled_once();
+    equal_replicas_reply_alike();
     worlds_stay_valid();
 }
 

@@ -62,8 +62,9 @@ pub fn batch<S: Source, K: Sink>(
     ensures run { (script : List ℕ) → IsOneRun (play script) }
 
     // So it is behind any list of proper events, in any order: in the world that they run to, two replicas whose units of a
-    // zone are equal by key, stamp and value answer each query alike, whatever its bytes: what both reply is read as the same
-    // reply, with number, RD, question, opcode, flags and sections, save for the primary server and the serial of each SOA.
+    // zone are equal by key, stamp and value answer each query alike, whatever its bytes: what both reply to a datagram that
+    // reaches this zone is read as the same reply, with number, RD, question, opcode, flags, code and sections, save for the
+    // primary server and the serial of each SOA.
     ensures alike { (list : List WorldEvent) → AreProper list → AnswersAlike (wrun list) }
 
     // In the trace of every list of events each one changes no zone but the one that it reaches. Before each step of a pass that

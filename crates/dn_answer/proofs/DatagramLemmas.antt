@@ -1,26 +1,26 @@
--- Which zone a query reaches, and what it is replied by that zone.
+-- What a datagram comes to can be replied to, where the zones that are seen can be served.
 use Rattle.std.proofs.Common.{◌≡◌, ℕ, ◌≤◌, Bool, true, false, if◌then◌else◌, List, [], ◌∷◌, length, Option, None, Some, refl, subst, arith}
 use Rattle.std.proofs.lemmas.Bool.Decides.{nat_tests}
 use Rattle.std.specs.List.{AllByRecursion}
-use Rattle.std.specs.Prelude.{filter, nat_eq, nat_lt, slice_get, not, ◌||◌}
-use Rattle.dn_name.specs.Name.{Labels}
+use Rattle.std.specs.Option.{option_map_or}
+use Rattle.std.specs.Prelude.{filter, nat_eq, nat_lt, not, ◌||◌}
 use Rattle.dn_rdata.specs.Types.{AXFR, IN}
+use Rattle.dn_message.specs.declared.kind.Kind.{Kind}
 use Rattle.dn_message.specs.declared.kind.Kind.TheVariants as kinds
 use Rattle.dn_message.specs.declared.query.Query.{Query}
 use Rattle.dn_message.specs.declared.rcode.Rcode.{Rcode}
 use Rattle.dn_message.specs.declared.rcode.Rcode.TheVariants.{NoError, FormErr, ServFail, NxDomain, NotImp, Refused, YxDomain, YxRrset, NxRrset, NotAuth, NotZone}
 use Rattle.dn_message.specs.Kind.{kind_of}
+use Rattle.dn_message.specs.QueryOf.{query_of}
+use Rattle.dn_message.proofs.CallerLemmas.{is_query}
 use Rattle.dn_store.proofs.CallerLemmas.{all_filter}
-use Rattle.dn_zone.specs.declared.zone.Zone.{Zone}
-use Rattle.dn_zone.specs.Valid.{IsValidZone}
-use Rattle.dn_world.specs.declared.world.Replica.{Replica}
-use Rattle.dn_world.specs.declared.world.World.{World}
-use Rattle.dn_world.specs.Datagram.{is_refusal, is_refused, reached, zone_asked, zone_over}
-use Rattle.dn_world.specs.Runs.{IsValidWorld}
-use Rattle.dn_world.specs.World.{covers, nearer, nearest, zone_for}
+use Rattle.dn_answer.specs.declared.datagrams.Received.{Received}
+use Rattle.dn_answer.specs.declared.datagrams.Received.TheVariants.{Answer, Code}
+use Rattle.dn_answer.specs.Datagram.{IsRepliable, is_over, is_refusal, is_refused, nearer, nearest, query_received, received, received_as, zone_over}
+use Rattle.dn_answer.specs.View.{IsServable, ZoneSeen}
 
 -- bytes of any kind but Silent have a whole header
-pub whole_header : (message : List ℕ) → (kind_of message ≡ kinds.Silent → ⊥) → 12 ≤ length message
+whole_header : (message : List ℕ) → (kind_of message ≡ kinds.Silent → ⊥) → 12 ≤ length message
 whole_header message loud = by_test (nat_lt (length message) 12) refl
   where
     by_test : (short : Bool) → nat_lt (length message) 12 ≡ short → 12 ≤ length message
@@ -60,7 +60,7 @@ refuses NotZone is = absurd (cc)
 
 -- ---- the zone that is reached
 
-nearer_holds : (P : Zone → Type 0) (first : Zone) (found : Option Zone) (zone : Zone) → P first → ((other : Zone) → found ≡ Some other → P other)
+nearer_holds : (P : ZoneSeen → Type 0) (first : ZoneSeen) (found : Option ZoneSeen) (zone : ZoneSeen) → P first → ((other : ZoneSeen) → found ≡ Some other → P other)
     → nearer first found ≡ Some zone → P zone
 nearer_holds P first None zone holds rest is = let same : first ≡ zone = cc in subst P same holds
 nearer_holds P first (Some other) zone holds rest is = by_test (nat_lt (length first.apex) (length other.apex)) is
@@ -69,16 +69,10 @@ nearer_holds P first (Some other) zone holds rest is = by_test (nat_lt (length f
     by_test true is = let same : other ≡ zone = cc in subst P same (rest other refl)
     by_test false is = let same : first ≡ zone = cc in subst P same holds
 
-nearest_holds : (P : Zone → Type 0) (zones : List Zone) (zone : Zone) → AllByRecursion P zones → nearest zones ≡ Some zone → P zone
+nearest_holds : (P : ZoneSeen → Type 0) (zones : List ZoneSeen) (zone : ZoneSeen) → AllByRecursion P zones → nearest zones ≡ Some zone → P zone
 unfolding nearest
 nearest_holds P [] zone all is = absurd (cc)
 nearest_holds P (first ∷ rest) zone all is = nearer_holds P first (nearest rest) zone all.0 (λ other there. nearest_holds P rest other all.1 there) is
-
-over_valid : (world : World) (name : Labels) (found : Option Replica) (zone : Zone) → IsValidWorld world → zone_over world name found ≡ Some zone → IsValidZone zone
-unfolding zone_for
-over_valid world name None zone valid is = absurd (cc)
-over_valid world name (Some replica) zone valid is =
-    nearest_holds IsValidZone (filter (covers replica.id name) world.zones) zone (all_filter IsValidZone (covers replica.id name) world.zones valid.zones) is
 
 class_is : (query : Query) → is_refused query ≡ false → query.qclass ≡ IN
 class_is query is = by_signed query.signed (nat_eq query.qclass IN) (nat_eq query.qtype AXFR) refl is
@@ -88,12 +82,31 @@ class_is query is = by_signed query.signed (nat_eq query.qclass IN) (nat_eq quer
     by_signed false false transfer of none = absurd (cc)
     by_signed false true transfer of none = grind (arith, nat_tests)
 
--- it is valid, and the query is of class IN
-pub reached_is : (world : World) (at : ℕ) (query : Query) (zone : Zone) → IsValidWorld world → reached world at query ≡ Some zone → IsValidZone zone × (query.qclass ≡ IN)
-unfolding reached zone_asked
-reached_is world at query zone valid is = by_test (is_refused query) refl is
-  where
-    by_test : (refused : Bool) → is_refused query ≡ refused → (if refused then None else zone_over world query.name (slice_get world.replicas at)) ≡ Some zone
-        → IsValidZone zone × (query.qclass ≡ IN)
-    by_test true test none = absurd (cc)
-    by_test false test found = (over_valid world query.name (slice_get world.replicas at) zone valid found, class_is query test)
+-- ---- what a datagram comes to
+
+module _ (zones : List ZoneSeen) (all : AllByRecursion IsServable zones) (request : List ℕ) where
+  by_zone : (query : Query) (found : Option ZoneSeen) → zone_over zones query.name ≡ found → query_of request ≡ Some query → 12 ≤ length request → query.qclass ≡ IN
+      → IsRepliable request (option_map_or (λ zone. Answer zone query) found (Code Refused))
+  by_zone query None there read whole class = whole
+  by_zone query (Some zone) there read whole class =
+      let servable : IsServable zone = nearest_holds IsServable (filter (is_over query.name) zones) zone (all_filter IsServable (is_over query.name) zones all) there in
+      (whole, servable, (is_query request query read).name_spelled.0, class)
+
+  by_refusal : (query : Query) (refused : Bool) → is_refused query ≡ refused → query_of request ≡ Some query → 12 ≤ length request
+      → IsRepliable request (if refused then Code Refused else option_map_or (λ zone. Answer zone query) (zone_over zones query.name) (Code Refused))
+  by_refusal query true test read whole = whole
+  by_refusal query false test read whole = by_zone query (zone_over zones query.name) refl read whole (class_is query test)
+
+  by_query : (found : Option Query) → query_of request ≡ found → 12 ≤ length request → IsRepliable request (option_map_or (query_received zones) found (Code FormErr))
+  by_query None read whole = whole
+  by_query (Some query) read whole = by_refusal query (is_refused query) refl read whole
+
+  by_kind : (kind : Kind) → ((kind ≡ kinds.Silent → ⊥) → 12 ≤ length request) → IsRepliable request (received_as kind zones request)
+  by_kind kinds.Silent whole = tt
+  by_kind kinds.Query whole = by_query (query_of request) refl (whole (λ is. absurd (cc)))
+  by_kind kinds.Update whole = whole (λ is. absurd (cc))
+  by_kind (kinds.Other opcode) whole = whole (λ is. absurd (cc))
+
+  pub repliable : IsRepliable request (received zones request)
+  unfolding received
+  repliable = by_kind (kind_of request) (whole_header request)
