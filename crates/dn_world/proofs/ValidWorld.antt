@@ -15,7 +15,7 @@ use Rattle.dn_link.specs.Sent.{IsValidRun}
 use Rattle.dn_zone.specs.declared.event.Event.{Event}
 use Rattle.dn_zone.specs.declared.event.Event.TheVariants as zone_events
 use Rattle.dn_zone.specs.declared.zone.Zone.{Zone}
-use Rattle.dn_zone.specs.Creation.{created, joined}
+use Rattle.dn_zone.specs.Creation.{created, joined_zone}
 use Rattle.dn_zone.specs.Merge.{changes_of, pull_of}
 use Rattle.dn_zone.specs.Valid.{IsProperEvent, IsValidZone, Meets}
 use Rattle.dn_zone.specs.Zone.{zstep}
@@ -258,8 +258,8 @@ unfolding created
 created_own replica apex mailbox moment named zone_named boxed =
     record { id = refl; host = refl; apex = refl; valid = created_valid replica.id replica.host apex mailbox moment named zone_named boxed }
 
-joined_own : (replica : Replica) (apex : Labels) → IsName replica.host → IsName apex → IsOwn replica apex (joined replica.id replica.host apex)
-unfolding joined
+joined_own : (replica : Replica) (apex : Labels) → IsName replica.host → IsName apex → IsOwn replica apex (joined_zone replica.id replica.host apex)
+unfolding joined_zone
 joined_own replica apex named zone_named = record { id = refl; host = refl; apex = refl; valid = joined_valid replica.id replica.host apex named zone_named }
 
 -- ---- an event of a zone
