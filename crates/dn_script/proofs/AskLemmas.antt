@@ -13,7 +13,7 @@ use Rattle.dn_answer.specs.Datagram.{reply_among, wants_more}
 use Rattle.dn_answer.specs.Told.{value_of}
 use Rattle.dn_answer.proofs.CallerLemmas.{Says, told_to}
 use Rattle.dn_word.specs.Print.{as_line}
-use Rattle.dn_world.specs.declared.world.World.{World}
+use Rattle.dn_world.specs.State.{WorldState}
 use Rattle.dn_world.specs.Ask.{world_reply}
 use Rattle.dn_world.specs.Datagram.{IsReadRightly, received_at, reply_to, zones_at}
 use Rattle.dn_script.specs.declared.line.ScriptLine.TheVariants as lines
@@ -35,11 +35,11 @@ there_is list at within =
 -- ---- questions
 
 -- a replica has a reply to each question
-reply_there : (world : World) (at : ℕ) (name : Labels) (qtype : ℕ) → at < length world.replicas → world_reply world at name qtype ≡ Some (reply_among (zones_at world at) name qtype)
+reply_there : (world : WorldState) (at : ℕ) (name : Labels) (qtype : ℕ) → at < length world.replicas → world_reply world at name qtype ≡ Some (reply_among (zones_at world at) name qtype)
 unfolding world_reply zones_at
 reply_there world at name qtype within = rw (there_is world.replicas at within).1 refl
 
-module _ (world : World) (at : ℕ) (within : at < length world.replicas) (name : Labels) (qtype : ℕ) (request reply : List ℕ) (kind : kind_of request ≡ kinds.Query)
+module _ (world : WorldState) (at : ℕ) (within : at < length world.replicas) (name : Labels) (qtype : ℕ) (request reply : List ℕ) (kind : kind_of request ≡ kinds.Query)
     (is : IsQuery request (question_of name qtype)) (read : IsReadRightly world at request reply) where
   says : Says reply (reply_among (zones_at world at) name qtype)
   says = told_to (zones_at world at) request reply (question_of name qtype) kind is refl refl read
@@ -54,7 +54,7 @@ module _ (world : World) (at : ℕ) (within : at < length world.replicas) (name 
 
 module _ (script : Script) (replica : List ℕ) (at : ℕ) (number : replica_number script replica ≡ Some at) where
   -- the script behind a line that changes nothing in it
-  same_script : (now : World) → now ≡ script.world → (text told : List ℕ) → text ≡ told
+  same_script : (now : WorldState) → now ≡ script.world → (text told : List ℕ) → text ≡ told
       → ◌≡◌ {A = Step} (Some (script, told)) (Some (record { names = script.names; world = now; moment = script.moment }, text))
   same_script now stays text told is = λ i. Some (record { names = script.names; world = sym stays i; moment = script.moment }, sym is i)
 
@@ -62,7 +62,7 @@ module _ (script : Script) (replica : List ℕ) (at : ℕ) (number : replica_num
   unfolding world_reply
   ask_missing name qtype past = ask_line script replica name qtype ∙ rw (number, slice_get_past script.world.replicas at past) refl
 
-  pub ask_done : (name : Labels) (qtype : ℕ) (value : AnswerValue) → world_reply script.world at name qtype ≡ Some value → (now : World) → now ≡ script.world
+  pub ask_done : (name : Labels) (qtype : ℕ) (value : AnswerValue) → world_reply script.world at name qtype ≡ Some value → (now : WorldState) → now ≡ script.world
       → (text : List ℕ) → text ≡ reply_text value
       → run_line script (lines.Ask replica name qtype) ≡ Some (record { names = script.names; world = now; moment = script.moment }, text)
   ask_done name qtype value replies now stays text is =
@@ -76,7 +76,7 @@ module _ (script : Script) (replica : List ℕ) (at : ℕ) (number : replica_num
   pub udp_wanting : (bytes : List ℕ) → at < length script.world.replicas → wants_more (received_at script.world at bytes) ≡ true → run_line script (lines.Udp replica bytes) ≡ None
   udp_wanting bytes within wants = udp_line script replica bytes ∙ rw (number, (there_is script.world.replicas at within).1, wants) refl
 
-  pub udp_done : (bytes : List ℕ) → at < length script.world.replicas → wants_more (received_at script.world at bytes) ≡ false → (now : World) → now ≡ script.world
+  pub udp_done : (bytes : List ℕ) → at < length script.world.replicas → wants_more (received_at script.world at bytes) ≡ false → (now : WorldState) → now ≡ script.world
       → (reply text : List ℕ) → reply ≡ reply_to script.world at bytes → text ≡ as_line (datagram_text reply)
       → run_line script (lines.Udp replica bytes) ≡ Some (record { names = script.names; world = now; moment = script.moment }, text)
   udp_done bytes within done now stays reply text replies is =

@@ -8,7 +8,7 @@ use Rattle.dn_word.specs.Print.{as_line}
 use Rattle.dn_world.specs.declared.event.WorldAnswer.{WorldAnswer}
 use Rattle.dn_world.specs.declared.event.WorldAnswer.TheVariants.{Made}
 use Rattle.dn_world.specs.declared.event.WorldEvent.TheVariants.{Deliver}
-use Rattle.dn_world.specs.declared.world.World.{World}
+use Rattle.dn_world.specs.State.{WorldState}
 use Rattle.dn_world.specs.Ask.{world_reply}
 use Rattle.dn_world.specs.Datagram.{received_at, reply_to}
 use Rattle.dn_world.specs.Runs.{run_from}
@@ -37,13 +37,13 @@ pass_line script replica apex at is =
     (the_same (after_event script (run_from (script.world, Made) (pass_events script.world at apex script.moment)))
     ∙ ap (after_event script) (sym (whole_pass_runs script.world at apex script.moment Made)))
 
-told : (result : Result (List ℕ) Bad) (script : Script) (after : World × WorldAnswer) → GivesOrLacks result (output_of after.1) → Steps result (record script { world = after.0 }) (after_event script after)
+told : (result : Result (List ℕ) Bad) (script : Script) (after : WorldState × WorldAnswer) → GivesOrLacks result (output_of after.1) → Steps result (record script { world = after.0 }) (after_event script after)
 told (Ok output) script after gives = rw gives refl
 told (Err bad.Line) script after gives = rw gives refl
 told (Err bad.Memory) script after gives = tt
 
 -- a pass that was run and whose answer was told
-pub pass_steps : (script : Script) (replica : List ℕ) (apex : Labels) (at : ℕ) (after : World × WorldAnswer) (result : Result (List ℕ) Bad) → replica_number script replica ≡ Some at
+pub pass_steps : (script : Script) (replica : List ℕ) (apex : Labels) (at : ℕ) (after : WorldState × WorldAnswer) (result : Result (List ℕ) Bad) → replica_number script replica ≡ Some at
     → whole_pass script.world at apex script.moment ≡ after → GivesOrLacks result (output_of after.1)
     → Steps result (record script { world = after.0 }) (run_line script (lines.Pass replica apex))
 pass_steps script replica apex at after result its_number ran gives =

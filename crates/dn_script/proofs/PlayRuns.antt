@@ -9,7 +9,7 @@ use Rattle.dn_word.proofs.CallerLemmas.{bound, chosen, given_is}
 use Rattle.dn_world.specs.declared.event.WorldAnswer.{WorldAnswer}
 use Rattle.dn_world.specs.declared.event.WorldAnswer.TheVariants.{Made}
 use Rattle.dn_world.specs.declared.event.WorldEvent.{WorldEvent}
-use Rattle.dn_world.specs.declared.world.World.{World}
+use Rattle.dn_world.specs.State.{WorldState}
 use Rattle.dn_world.specs.Ask.{world_reply}
 use Rattle.dn_world.specs.Datagram.{received_at, reply_to}
 use Rattle.dn_world.specs.Runs.{AreProper, IsValidWorld, run_from, wrun}
@@ -27,7 +27,7 @@ use Rattle.dn_script.proofs.ProperLines.{text_proper}
 -- ---- one line
 
 -- the world of what is given is this one
-abbrev pub InWorld : World → Script × List ℕ → Type 0
+abbrev pub InWorld : WorldState → Script × List ℕ → Type 0
 InWorld world after = after.0.world ≡ world
 
 besides_same : (line : ScriptLine) (now after : Script × List ℕ) → besides line now ≡ Some after → InWorld now.0.world after
@@ -54,7 +54,7 @@ ran_same : (script : Script) (line : ScriptLine) (list : List WorldEvent) (after
     → InWorld (run_from (script.world, Made) list).0 after
 unfolding run_events
 ran_same script line list after is =
-    let world : World = (run_from (script.world, Made) list).0 in
+    let world : WorldState = (run_from (script.world, Made) list).0 in
     bound (InWorld world) (after_event script (run_from (script.world, Made) list)) (besides line)
     (λ now ran one given.
     besides_same line now one given
@@ -112,12 +112,12 @@ step_runs : (number : ℕ) (script : Script) (events : List WorldEvent) (step : 
     → Runs script (after_step number script events step go_on)
 step_runs number script events None go_on runs rest = refl
 step_runs number script events (Some (now, output)) go_on runs rest =
-    let mid : World × WorldAnswer = run_from (script.world, Made) events in
+    let mid : WorldState × WorldAnswer = run_from (script.world, Made) events in
     let later : List WorldEvent = (go_on now).events in
     rest now
-    ∙ ap (λ (world : World). (run_from (world, Made) later).0) (runs (now, output) refl)
+    ∙ ap (λ (world : WorldState). (run_from (world, Made) later).0) (runs (now, output) refl)
     ∙ run_world mid.0 Made mid.1 later
-    ∙ sym (ap (λ (after : World × WorldAnswer). after.0) (run_then (script.world, Made) events later))
+    ∙ sym (ap (λ (after : WorldState × WorldAnswer). after.0) (run_then (script.world, Made) events later))
 
 long_runs : (long : Bool) (script : Script) (one other : Played) → Runs script one → Runs script other → Runs script (cond long one other)
 long_runs true script one other first second = first

@@ -5,7 +5,7 @@ use Rattle.dn_world.specs.declared.event.WorldEvent.{WorldEvent}
 use Rattle.dn_world.specs.Aging.{TraceAges, nothing_given}
 use Rattle.dn_world.specs.Datagram.{IsReadRightly, reply_to}
 use Rattle.dn_world.specs.Laws.{AnswersAlike}
-use Rattle.dn_world.specs.declared.world.World.{World}
+use Rattle.dn_world.specs.State.{WorldState}
 use Rattle.dn_world.specs.Runs.{AreProper, IsValidWorld, trace, trace_from, wrun}
 use Rattle.dn_script.specs.Passes.{IsWholePass, pass_events}
 use Rattle.dn_script.specs.Play.{Played}
@@ -23,7 +23,7 @@ pub record IsOneRun (played : Played) : Type 0 where
   pub replies : (at : ℕ) (request : List ℕ) → IsReadRightly played.world at request (reply_to played.world at request)
 
 -- In a world the events of a whole pass over a zone are the one list whose trace is a whole pass.
-abbrev pub PassesAreWhole : World → Type 0
+abbrev pub PassesAreWhole : WorldState → Type 0
 PassesAreWhole world =
     (events : List WorldEvent) (at moment : ℕ) (apex : Labels)
     → IsWholePass at apex moment (trace_from world events) ↔ (events ≡ pass_events world at apex moment)

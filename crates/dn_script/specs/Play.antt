@@ -17,7 +17,7 @@ use Rattle.dn_world.specs.declared.event.WorldAnswer.{WorldAnswer}
 use Rattle.dn_world.specs.declared.event.WorldAnswer.TheVariants as world
 use Rattle.dn_world.specs.declared.event.WorldEvent.{WorldEvent}
 use Rattle.dn_world.specs.declared.event.WorldEvent.TheVariants.{Act, Create, Deliver, Join, Pull, Replica}
-use Rattle.dn_world.specs.declared.world.World.{World}
+use Rattle.dn_world.specs.State.{WorldState}
 use Rattle.dn_world.specs.Ask.{world_reply}
 use Rattle.dn_world.specs.Datagram.{received_at, reply_to}
 use Rattle.dn_world.specs.Runs.{run_from}
@@ -57,7 +57,7 @@ output_of (world.Sent packet) = Some (as_line (packet_text packet))
 output_of (world.No why) = None
 
 -- a refused event makes its line invalid
-abbrev pub after_event : Script → World × WorldAnswer → Step
+abbrev pub after_event : Script → WorldState × WorldAnswer → Step
 after_event script after = do
   output ← output_of after.1
   Some (record script { world = after.0 }, output)
@@ -162,7 +162,7 @@ text_events script text = if does_nothing text then [] else line_events script (
 pub record Played : Type 0 where
   pub events : List WorldEvent
   pub text : List ℕ
-  pub world : World
+  pub world : WorldState
   pub ending : Ending
 
 abbrev pub ends : Script → Ending → Played

@@ -187,7 +187,7 @@ impl Script {
         ensures { Steps result self.new (run_line self.old (ScriptLine.Ask replica.now name.now qtype)) }
     {
         let at = self.replica_number(replica)?;
-        if at >= self.world.replicas.len() {
+        if at >= self.world.replicas().len() {
             return Err(Bad::Line);
         }
         let mut request = [0u8; 512];
@@ -209,7 +209,7 @@ impl Script {
         ensures { Steps result self.new (run_line self.old (ScriptLine.Udp replica.now bytes.now)) }
     {
         let at = self.replica_number(replica)?;
-        if at >= self.world.replicas.len() {
+        if at >= self.world.replicas().len() {
             return Err(Bad::Line);
         }
         let received = self.world.received(at, bytes);

@@ -7,7 +7,7 @@ use Rattle.dn_answer.specs.Alike.{AreEqual, EqualReplyAlike, ReadAlike}
 use Rattle.dn_answer.specs.Datagram.{IsRepliable, reply_bytes, zone_bytes}
 use Rattle.dn_answer.specs.View.{ZoneSeen}
 use Rattle.dn_zone.specs.Valid.{IsValidZone}
-use Rattle.dn_world.specs.declared.world.World.{World}
+use Rattle.dn_world.specs.State.{WorldState}
 use Rattle.dn_world.specs.Datagram.{received_at, reply_to, view_of}
 use Rattle.dn_world.specs.Laws.{AnswersAlike}
 use Rattle.dn_world.specs.Runs.{IsValidWorld}
@@ -24,7 +24,7 @@ module _ (alike : EqualReplyAlike) (request : List ℕ) (query : Query) (left ri
       subst (λ it. ReadAlike (reply_bytes request it) (reply_bytes request other)) (sym is)
       (subst (λ it. ReadAlike (zone_bytes request left query) (reply_bytes request it)) (sym also) same)
 
-pub world_alike : EqualReplyAlike → (world : World) → IsValidWorld world → AnswersAlike world
+pub world_alike : EqualReplyAlike → (world : WorldState) → IsValidWorld world → AnswersAlike world
 world_alike alike world valid =
     record {
       zones = λ left right one other equal request query is.

@@ -14,7 +14,7 @@ use Rattle.dn_link.specs.declared.packet.Packet.TheVariants as packets
 use Rattle.dn_link.specs.Sent.{IsValidRun}
 use Rattle.dn_zone.specs.declared.event.Event.{Event}
 use Rattle.dn_zone.specs.declared.event.Event.TheVariants as zone_events
-use Rattle.dn_zone.specs.declared.zone.Zone.{Zone}
+use Rattle.dn_zone.specs.State.{ZoneState}
 use Rattle.dn_zone.specs.Creation.{created, joined_zone}
 use Rattle.dn_zone.specs.Merge.{changes_of, pull_of}
 use Rattle.dn_zone.specs.Valid.{IsProperEvent, IsValidZone, Meets}
@@ -28,7 +28,7 @@ use Rattle.dn_world.specs.declared.event.WorldNo.{WorldNo}
 use Rattle.dn_world.specs.declared.event.WorldNo.TheVariants.{Full, ZoneThere}
 use Rattle.dn_world.specs.declared.world.Post.{Post}
 use Rattle.dn_world.specs.declared.world.Replica.{Replica}
-use Rattle.dn_world.specs.declared.world.World.{World}
+use Rattle.dn_world.specs.State.{WorldState}
 use Rattle.dn_world.specs.Runs.{AreProper, HasReplica, IsProper, IsValidPost, IsValidWorld, run_from, same_id, same_zone, wrun}
 use Rattle.dn_world.specs.World.{act_at, act_in, answer_pull, deliver_post, deliver_to, empty_world, has_id, has_zone, is_of, is_zone, packet_limit, post_at, pull_between, replica_limit, sent, set_zone, with_replica, with_zone, wstep, wstep_act, wstep_pull, wstep_replica, wstep_zone, zone_limit, zone_of, zone_unless}
 use Rattle.dn_world.proofs.DifferLemmas.{any_found, any_more, any_same, any_set, count_more, count_set, find_more, found_alone, no_two_more, no_two_set}
@@ -70,34 +70,34 @@ apex_lowered : (third apex : Labels) → is_same third (lowered apex) ≡ is_sam
 apex_lowered third apex =
     ap (λ (name : Labels). pointwise (pointwise nat_eq) (lowered third) name) (sym ((labels_decide (lowered apex) (lowered (lowered apex))).0 (lower_lowered apex)))
 
-zone_itself : (zone : Zone) → is_zone zone.id zone.apex zone ≡ true
+zone_itself : (zone : ZoneState) → is_zone zone.id zone.apex zone ≡ true
 zone_itself zone = and_both (is_id zone.id zone.id) (is_same zone.apex zone.apex) (id_itself zone.id) (apex_itself zone.apex)
 
 -- the tests of a zone that stays the same replica's
-kept_zone : (zone after : Zone) → IsSameZone zone after → (id : ReplicaId) (apex : Labels) → is_zone id apex after ≡ is_zone id apex zone
+kept_zone : (zone after : ZoneState) → IsSameZone zone after → (id : ReplicaId) (apex : Labels) → is_zone id apex after ≡ is_zone id apex zone
 kept_zone zone after same id apex = ap₂ (λ (own : ReplicaId) (name : Labels). is_id own id && is_same name apex) same.id same.apex
 
-kept_other : (zone after other : Zone) → IsSameZone zone after → same_zone other after ≡ same_zone other zone
+kept_other : (zone after other : ZoneState) → IsSameZone zone after → same_zone other after ≡ same_zone other zone
 kept_other zone after other same = ap₂ (λ (own : ReplicaId) (name : Labels). is_id other.id own && is_same other.apex name) same.id same.apex
 
 abbrev HasNamed : List Replica → ReplicaId → Labels → Type 0
 HasNamed replicas id host = find (has_id id) replicas ≡ Some (record { id = id; host = host })
 
-kept_owner : (replicas : List Replica) (zone after : Zone) → IsSameZone zone after → HasReplica replicas zone → HasReplica replicas after
+kept_owner : (replicas : List Replica) (zone after : ZoneState) → IsSameZone zone after → HasReplica replicas zone → HasReplica replicas after
 kept_owner replicas zone after same has =
     subst (λ (host : Labels). HasNamed replicas after.id host) (sym same.host) (subst (λ (id : ReplicaId). HasNamed replicas id zone.host) (sym same.id) has)
 
 -- ---- one change of a world
 
 -- packets stay valid where each zone that was there is there
-posts_kept : (zones after : List Zone) (posts : List Post) → ((id : ReplicaId) (apex : Labels) → has_zone zones id apex ≡ true → has_zone after id apex ≡ true)
+posts_kept : (zones after : List ZoneState) (posts : List Post) → ((id : ReplicaId) (apex : Labels) → has_zone zones id apex ≡ true → has_zone after id apex ≡ true)
     → AllByRecursion (IsValidPost zones) posts → AllByRecursion (IsValidPost after) posts
 posts_kept zones after posts on all =
     all_then (IsValidPost zones) (IsValidPost after) posts
     (λ post valid.
     record { packet = valid.packet; sender = on _ _ valid.sender; receiver = on _ _ valid.receiver; apart = valid.apart }) all
 
-zone_changed : (world : World) (at : ℕ) (old new : Zone) → IsValidWorld world → slice_get world.zones at ≡ Some old → IsSameZone old new → IsValidZone new
+zone_changed : (world : WorldState) (at : ℕ) (old new : ZoneState) → IsValidWorld world → slice_get world.zones at ≡ Some old → IsSameZone old new → IsValidZone new
     → IsValidWorld (set_zone world at new)
 zone_changed world at old new valid is same holds =
     record {
@@ -122,19 +122,19 @@ zone_changed world at old new valid is same holds =
     }
 
 -- what a new zone of a replica is
-record IsOwn (replica : Replica) (named : Labels) (zone : Zone) : Type 0 where
+record IsOwn (replica : Replica) (named : Labels) (zone : ZoneState) : Type 0 where
   id : zone.id ≡ replica.id
   host : zone.host ≡ replica.host
   apex : zone.apex ≡ lowered named
   valid : IsValidZone zone
 
-own_owner : (world : World) (at : ℕ) (replica : Replica) (apex : Labels) (zone : Zone) → IsValidWorld world → slice_get world.replicas at ≡ Some replica → IsOwn replica apex zone
+own_owner : (world : WorldState) (at : ℕ) (replica : Replica) (apex : Labels) (zone : ZoneState) → IsValidWorld world → slice_get world.replicas at ≡ Some replica → IsOwn replica apex zone
     → HasReplica world.replicas zone
 own_owner world at replica apex zone valid is own =
     let found : HasNamed world.replicas replica.id replica.host = found_alone same_id world.replicas at replica valid.ids is (id_itself replica.id) in
     subst (λ (host : Labels). HasNamed world.replicas zone.id host) (sym own.host) (subst (λ (id : ReplicaId). HasNamed world.replicas id replica.host) (sym own.id) found)
 
-own_apart : (world : World) (replica : Replica) (apex : Labels) (zone : Zone) → IsOwn replica apex zone → list_any (is_zone replica.id apex) world.zones ≡ false
+own_apart : (world : WorldState) (replica : Replica) (apex : Labels) (zone : ZoneState) → IsOwn replica apex zone → list_any (is_zone replica.id apex) world.zones ≡ false
     → list_any (is_zone zone.id zone.apex) world.zones ≡ false
 own_apart world replica apex zone own none =
     any_same (is_zone zone.id zone.apex) (is_zone replica.id apex) world.zones
@@ -142,10 +142,10 @@ own_apart world replica apex zone own none =
     ap₂ (λ (id : ReplicaId) (name : Labels). is_id one.id id && is_same one.apex name) own.id own.apex
     ∙ ap (λ (b : Bool). is_id one.id replica.id && b) (apex_lowered one.apex apex)) ∙ none
 
-count_like : (zones : List Zone) (one other : ReplicaId) → is_id one other ≡ true → count_by (is_of one) zones ≡ count_by (is_of other) zones
-count_like zones one other same = ap (λ (test : Zone → Bool). count_by test zones) (λ i zone. id_like_to zone.id one other same i)
+count_like : (zones : List ZoneState) (one other : ReplicaId) → is_id one other ≡ true → count_by (is_of one) zones ≡ count_by (is_of other) zones
+count_like zones one other same = ap (λ (test : ZoneState → Bool). count_by test zones) (λ i zone. id_like_to zone.id one other same i)
 
-zone_added : (world : World) (zone : Zone) → IsValidWorld world → IsValidZone zone → HasReplica world.replicas zone → list_any (is_zone zone.id zone.apex) world.zones ≡ false
+zone_added : (world : WorldState) (zone : ZoneState) → IsValidWorld world → IsValidZone zone → HasReplica world.replicas zone → list_any (is_zone zone.id zone.apex) world.zones ≡ false
     → count_by (is_of zone.id) world.zones < zone_limit → IsValidWorld (with_zone world zone)
 zone_added world zone valid new owner none room =
     record {
@@ -173,7 +173,7 @@ one_more list one limit room =
     let longer : length (list ++ one ∷ []) ≡ length list + length (one ∷ []) = length-append list (one ∷ []) in
     omega arith
 
-replica_added : (world : World) (replica : Replica) → IsValidWorld world → IsName replica.host → list_any (has_id replica.id) world.replicas ≡ false
+replica_added : (world : WorldState) (replica : Replica) → IsValidWorld world → IsName replica.host → list_any (has_id replica.id) world.replicas ≡ false
     → length world.replicas < replica_limit → IsValidWorld (with_replica world replica)
 replica_added world replica valid named none room =
     record {
@@ -189,9 +189,9 @@ replica_added world replica valid named none room =
           record { replicas = one_more world.replicas replica replica_limit room; zones = valid.limits.zones; packets = valid.limits.packets };
     }
 
-sent_by : (full : Bool) (world : World) (to : ReplicaId) (packet : Packet) (one other : WorldAnswer) → nat_le packet_limit (length world.packets) ≡ full → IsValidWorld world
+sent_by : (full : Bool) (world : WorldState) (to : ReplicaId) (packet : Packet) (one other : WorldAnswer) → nat_le packet_limit (length world.packets) ≡ full → IsValidWorld world
     → IsValidPost world.zones (record { to = to; packet = packet })
-    → IsValidWorld (cond {A = World × WorldAnswer} full (world, one) (record world { packets = world.packets ++ record { to = to; packet = packet } ∷ [] }, other)).0
+    → IsValidWorld (cond {A = WorldState × WorldAnswer} full (world, one) (record world { packets = world.packets ++ record { to = to; packet = packet } ∷ [] }, other)).0
 sent_by true world to packet one other is valid new = valid
 sent_by false world to packet one other is valid new =
     record {
@@ -209,25 +209,25 @@ sent_by false world to packet one other is valid new =
           };
     }
 
-packet_sent : (world : World) (to : ReplicaId) (packet : Packet) → IsValidWorld world → IsValidPost world.zones (record { to = to; packet = packet }) → IsValidWorld (sent world to packet).0
+packet_sent : (world : WorldState) (to : ReplicaId) (packet : Packet) → IsValidWorld world → IsValidPost world.zones (record { to = to; packet = packet }) → IsValidWorld (sent world to packet).0
 packet_sent world to packet valid new = sent_by (nat_le packet_limit (length world.packets)) world to packet _ _ refl valid new
 
 -- ---- replicas and zones
 
-replica_by : (taken full : Bool) (world : World) (replica : Replica) (one other going : WorldAnswer) → list_any (has_id replica.id) world.replicas ≡ taken
+replica_by : (taken full : Bool) (world : WorldState) (replica : Replica) (one other going : WorldAnswer) → list_any (has_id replica.id) world.replicas ≡ taken
     → nat_le replica_limit (length world.replicas) ≡ full → IsValidWorld world → IsName replica.host
-    → IsValidWorld (cond {A = World × WorldAnswer} taken (world, one) (cond {A = World × WorldAnswer} full (world, other) (with_replica world replica, going))).0
+    → IsValidWorld (cond {A = WorldState × WorldAnswer} taken (world, one) (cond {A = WorldState × WorldAnswer} full (world, other) (with_replica world replica, going))).0
 replica_by true full world replica one other going is within valid named = valid
 replica_by false true world replica one other going is within valid named = valid
 replica_by false false world replica one other going is within valid named =
     replica_added world replica valid named is (leb-false replica_limit (length world.replicas) within)
 
-replica_made : (world : World) (id : ReplicaId) (host : Labels) → IsValidWorld world → IsName host → IsValidWorld (wstep_replica world id host).0
+replica_made : (world : WorldState) (id : ReplicaId) (host : Labels) → IsValidWorld world → IsName host → IsValidWorld (wstep_replica world id host).0
 unfolding wstep_replica
 replica_made world id host valid named =
     replica_by (list_any (has_id id) world.replicas) (nat_le replica_limit (length world.replicas)) world (record { id = id; host = host }) _ _ _ refl refl valid named
 
-room_by : (there full : Bool) (world : World) (at : ℕ) (replica : Replica) (apex : Labels) (zone : Zone) → list_any (is_zone replica.id apex) world.zones ≡ there
+room_by : (there full : Bool) (world : WorldState) (at : ℕ) (replica : Replica) (apex : Labels) (zone : ZoneState) → list_any (is_zone replica.id apex) world.zones ≡ there
     → nat_le zone_limit (count_by (is_of replica.id) world.zones) ≡ full → IsValidWorld world → slice_get world.replicas at ≡ Some replica → IsOwn replica apex zone
     → IsValidWorld (zone_unless (cond {A = Option WorldNo} there (Some ZoneThere) (cond {A = Option WorldNo} full (Some Full) None)) world zone).0
 room_by true full world at replica apex zone is within valid found own = valid
@@ -237,7 +237,7 @@ room_by false false world at replica apex zone is within valid found own =
     zone_added world zone valid own.valid (own_owner world at replica apex zone valid found own) (own_apart world replica apex zone own is)
     (subst (λ (id : ReplicaId). count_by (is_of id) world.zones < zone_limit) (sym own.id) room)
 
-zone_made_by : (world : World) (at : ℕ) (found : Option Replica) (apex : Labels) (make : Replica → Zone) → slice_get world.replicas at ≡ found → IsValidWorld world
+zone_made_by : (world : WorldState) (at : ℕ) (found : Option Replica) (apex : Labels) (make : Replica → ZoneState) → slice_get world.replicas at ≡ found → IsValidWorld world
     → ((replica : Replica) → slice_get world.replicas at ≡ Some replica → IsOwn replica apex (make replica)) → IsValidWorld (wstep_zone world found apex make).0
 unfolding wstep_zone
 zone_made_by world at None apex make is valid own = valid
@@ -245,11 +245,11 @@ zone_made_by world at (Some replica) apex make is valid own =
     room_by (list_any (is_zone replica.id apex) world.zones) (nat_le zone_limit (count_by (is_of replica.id) world.zones)) world at replica apex (make replica) refl refl valid is
     (own replica is)
 
-zone_made : (world : World) (at : ℕ) (apex : Labels) (make : Replica → Zone) → IsValidWorld world
+zone_made : (world : WorldState) (at : ℕ) (apex : Labels) (make : Replica → ZoneState) → IsValidWorld world
     → ((replica : Replica) → slice_get world.replicas at ≡ Some replica → IsOwn replica apex (make replica)) → IsValidWorld (wstep_zone world (slice_get world.replicas at) apex make).0
 zone_made world at apex make valid own = zone_made_by world at (slice_get world.replicas at) apex make refl valid own
 
-host_named : (world : World) (at : ℕ) (replica : Replica) → IsValidWorld world → slice_get world.replicas at ≡ Some replica → IsName replica.host
+host_named : (world : WorldState) (at : ℕ) (replica : Replica) → IsValidWorld world → slice_get world.replicas at ≡ Some replica → IsName replica.host
 host_named world at replica valid is = all_get NamedReplica world.replicas at replica valid.hosts is
 
 created_own : (replica : Replica) (apex mailbox : Labels) (moment : ℕ) → IsName replica.host → IsName apex → IsName mailbox
@@ -264,36 +264,36 @@ joined_own replica apex named zone_named = record { id = refl; host = refl; apex
 
 -- ---- an event of a zone
 
-acted_in : (world : World) (event : Event) (at : ℕ) (found : Option Zone) → slice_get world.zones at ≡ found → IsValidWorld world
-    → ((zone : Zone) → slice_get world.zones at ≡ Some zone → Meets zone event) → IsValidWorld (act_in world event at found).0
+acted_in : (world : WorldState) (event : Event) (at : ℕ) (found : Option ZoneState) → slice_get world.zones at ≡ found → IsValidWorld world
+    → ((zone : ZoneState) → slice_get world.zones at ≡ Some zone → Meets zone event) → IsValidWorld (act_in world event at found).0
 acted_in world event at None is valid meets = valid
 acted_in world event at (Some zone) is valid meets =
     zone_changed world at zone (zstep zone event).0 valid is (event_same zone event)
     (event_valid zone event (all_get IsValidZone world.zones at zone valid.zones is) (meets zone is))
 
-acted : (world : World) (event : Event) (found : Option ℕ) → IsValidWorld world
-    → ((at : ℕ) (zone : Zone) → found ≡ Some at → slice_get world.zones at ≡ Some zone → Meets zone event) → IsValidWorld (act_at world event found).0
+acted : (world : WorldState) (event : Event) (found : Option ℕ) → IsValidWorld world
+    → ((at : ℕ) (zone : ZoneState) → found ≡ Some at → slice_get world.zones at ≡ Some zone → Meets zone event) → IsValidWorld (act_at world event found).0
 acted world event None valid meets = valid
 acted world event (Some at) valid meets = acted_in world event at (slice_get world.zones at) refl valid (λ zone is. meets at zone refl is)
 
 -- a proper event is one that each zone meets
-proper_meets : (zone : Zone) (event : Event) → IsProperEvent event → Meets zone event
+proper_meets : (zone : ZoneState) (event : Event) → IsProperEvent event → Meets zone event
 proper_meets zone (zone_events.Admin cmd moment) proper = proper
 proper_meets zone (zone_events.Begin moment) proper = proper
 proper_meets zone (zone_events.Step most) proper = proper
 proper_meets zone (zone_events.Merge changes) proper = absurd proper
 
-acted_by : (world : World) (found : Option Replica) (apex : Labels) (event : Event) → IsValidWorld world → IsProperEvent event → IsValidWorld (wstep_act world found apex event).0
+acted_by : (world : WorldState) (found : Option Replica) (apex : Labels) (event : Event) → IsValidWorld world → IsProperEvent event → IsValidWorld (wstep_act world found apex event).0
 unfolding wstep_act
 acted_by world None apex event valid proper = valid
 acted_by world (Some replica) apex event valid proper =
     acted world event (position (is_zone replica.id apex) world.zones) valid (λ at zone placed is. proper_meets zone event proper)
 
 -- valid changes are merged into the zone of their apex
-merged : (world : World) (to : ReplicaId) (changes : Changes) → IsValidWorld world → IsValidRun changes
+merged : (world : WorldState) (to : ReplicaId) (changes : Changes) → IsValidWorld world → IsValidRun changes
     → IsValidWorld (act_at world (zone_events.Merge changes) (position (is_zone to changes.zone) world.zones)).0
 merged world to changes valid run =
-    let test : Zone → Bool = is_zone to changes.zone in
+    let test : ZoneState → Bool = is_zone to changes.zone in
     acted world (zone_events.Merge changes) (position test world.zones) valid
     (λ at zone placed is.
     let found : find test world.zones ≡ Some zone = sym (position_found test world.zones at placed) ∙ is in
@@ -304,19 +304,19 @@ merged world to changes valid run =
 -- ---- packets
 
 -- a zone that is found by a test
-record IsThere (world : World) (id : ReplicaId) (apex : Labels) (zone : Zone) : Type 0 where
+record IsThere (world : WorldState) (id : ReplicaId) (apex : Labels) (zone : ZoneState) : Type 0 where
   found : find (is_zone id apex) world.zones ≡ Some zone
   valid : IsValidZone zone
   id_is : is_id zone.id id ≡ true
   apex_is : is_same zone.apex apex ≡ true
 
-there : (world : World) (id : ReplicaId) (apex : Labels) (zone : Zone) → IsValidWorld world → zone_of world id apex ≡ Some zone → IsThere world id apex zone
+there : (world : WorldState) (id : ReplicaId) (apex : Labels) (zone : ZoneState) → IsValidWorld world → zone_of world id apex ≡ Some zone → IsThere world id apex zone
 there world id apex zone valid is =
     let holds : (is_zone id apex zone ≡ true) × IsValidZone zone = found_holds IsValidZone (is_zone id apex) world.zones zone valid.zones is in
     let parts = and_parts (is_of id zone) (is_same zone.apex apex) holds.0 in
     record { found = is; valid = holds.1; id_is = parts.0; apex_is = parts.1 }
 
-pull_post : (world : World) (by of : ReplicaId) (apex : Labels) (own theirs : Zone) → IsThere world by apex own → IsThere world of apex theirs → is_id by of ≡ false
+pull_post : (world : WorldState) (by of : ReplicaId) (apex : Labels) (own theirs : ZoneState) → IsThere world by apex own → IsThere world of apex theirs → is_id by of ≡ false
     → IsValidPost world.zones (record { to = of; packet = pull_of own of })
 pull_post world by of apex own theirs here other apart =
     record {
@@ -328,19 +328,19 @@ pull_post world by of apex own theirs here other apart =
       apart = id_like own.id by of here.id_is ∙ apart;
     }
 
-pull_by : (same : Bool) (world : World) (by of : Replica) (apex : Labels) (own theirs : Zone) (one : WorldAnswer) → is_id by.id of.id ≡ same → IsValidWorld world
-    → IsThere world by.id apex own → IsThere world of.id apex theirs → IsValidWorld (cond {A = World × WorldAnswer} same (world, one) (sent world of.id (pull_of own of.id))).0
+pull_by : (same : Bool) (world : WorldState) (by of : Replica) (apex : Labels) (own theirs : ZoneState) (one : WorldAnswer) → is_id by.id of.id ≡ same → IsValidWorld world
+    → IsThere world by.id apex own → IsThere world of.id apex theirs → IsValidWorld (cond {A = WorldState × WorldAnswer} same (world, one) (sent world of.id (pull_of own of.id))).0
 pull_by true world by of apex own theirs one is valid here other = valid
 pull_by false world by of apex own theirs one is valid here other = packet_sent world of.id _ valid (pull_post world by.id of.id apex own theirs here other is)
 
-pulled_between : (world : World) (by of : Replica) (apex : Labels) (own theirs : Option Zone) → IsValidWorld world → ((zone : Zone) → own ≡ Some zone → IsThere world by.id apex zone)
-    → ((zone : Zone) → theirs ≡ Some zone → IsThere world of.id apex zone) → IsValidWorld (pull_between world by of own theirs).0
+pulled_between : (world : WorldState) (by of : Replica) (apex : Labels) (own theirs : Option ZoneState) → IsValidWorld world → ((zone : ZoneState) → own ≡ Some zone → IsThere world by.id apex zone)
+    → ((zone : ZoneState) → theirs ≡ Some zone → IsThere world of.id apex zone) → IsValidWorld (pull_between world by of own theirs).0
 pulled_between world by of apex None theirs valid here other = valid
 pulled_between world by of apex (Some own) None valid here other = valid
 pulled_between world by of apex (Some own) (Some theirs) valid here other =
     pull_by (is_id by.id of.id) world by of apex own theirs _ refl valid (here own refl) (other theirs refl)
 
-pulled : (world : World) (by of : Option Replica) (apex : Labels) → IsValidWorld world → IsValidWorld (wstep_pull world by of apex).0
+pulled : (world : WorldState) (by of : Option Replica) (apex : Labels) → IsValidWorld world → IsValidWorld (wstep_pull world by of apex).0
 unfolding wstep_pull
 pulled world None of apex valid = valid
 pulled world (Some by) None apex valid = valid
@@ -348,7 +348,7 @@ pulled world (Some by) (Some of) apex valid =
     pulled_between world by of apex (zone_of world by.id apex) (zone_of world of.id apex) valid (λ zone is. there world by.id apex zone valid is)
     (λ zone is. there world of.id apex zone valid is)
 
-answer_post : (world : World) (to from : ReplicaId) (apex : Labels) (after : ℕ) (zone : Zone) → IsThere world to apex zone → has_zone world.zones from apex ≡ true → is_id from to ≡ false
+answer_post : (world : WorldState) (to from : ReplicaId) (apex : Labels) (after : ℕ) (zone : ZoneState) → IsThere world to apex zone → has_zone world.zones from apex ≡ true → is_id from to ≡ false
     → IsValidPost world.zones (record { to = from; packet = packets.Changes (changes_of zone.table zone.apex zone.id after) })
 unfolding changes_of
 answer_post world to from apex after zone here has apart =
@@ -361,29 +361,29 @@ answer_post world to from apex after zone here has apart =
       apart = id_like zone.id to from here.id_is ∙ apart_back from to apart;
     }
 
-answered : (world : World) (to from : ReplicaId) (apex : Labels) (after : ℕ) (found : Option Zone) → IsValidWorld world → has_zone world.zones from apex ≡ true → is_id from to ≡ false
-    → ((zone : Zone) → found ≡ Some zone → IsThere world to apex zone) → IsValidWorld (answer_pull world from after found).0
+answered : (world : WorldState) (to from : ReplicaId) (apex : Labels) (after : ℕ) (found : Option ZoneState) → IsValidWorld world → has_zone world.zones from apex ≡ true → is_id from to ≡ false
+    → ((zone : ZoneState) → found ≡ Some zone → IsThere world to apex zone) → IsValidWorld (answer_pull world from after found).0
 answered world to from apex after None valid has apart holds = valid
 answered world to from apex after (Some zone) valid has apart holds =
     packet_sent world from _ valid (answer_post world to from apex after zone (holds zone refl) has apart)
 
-delivered_to : (world : World) (to : ReplicaId) (packet : Packet) → IsValidWorld world → IsValidPost world.zones (record { to = to; packet = packet }) → IsValidWorld (deliver_to world to packet).0
+delivered_to : (world : WorldState) (to : ReplicaId) (packet : Packet) → IsValidWorld world → IsValidPost world.zones (record { to = to; packet = packet }) → IsValidWorld (deliver_to world to packet).0
 unfolding deliver_to
 delivered_to world to (packets.Pull apex from after) valid post =
     answered world to from apex after (zone_of world to apex) valid post.sender post.apart (λ zone is. there world to apex zone valid is)
 delivered_to world to (packets.Changes changes) valid post = merged world to changes valid post.packet
 
-delivered : (world : World) (found : Option Post) → IsValidWorld world → ((post : Post) → found ≡ Some post → IsValidPost world.zones post) → IsValidWorld (deliver_post world found).0
+delivered : (world : WorldState) (found : Option Post) → IsValidWorld world → ((post : Post) → found ≡ Some post → IsValidPost world.zones post) → IsValidWorld (deliver_post world found).0
 delivered world None valid holds = valid
 delivered world (Some post) valid holds = delivered_to world post.to post.packet valid (holds post refl)
 
-post_valid : (world : World) (number : ℕ) (post : Post) → IsValidWorld world → post_at world.packets number ≡ Some post → IsValidPost world.zones post
+post_valid : (world : WorldState) (number : ℕ) (post : Post) → IsValidWorld world → post_at world.packets number ≡ Some post → IsValidPost world.zones post
 post_valid world zero post valid is = absurd (cc)
 post_valid world (suc before) post valid is = all_get (IsValidPost world.zones) world.packets before post valid.packets is
 
 -- ---- each event, and lists of them
 
-event_keeps : (world : World) (event : WorldEvent) → IsValidWorld world → IsProper event → IsValidWorld (wstep world event).0
+event_keeps : (world : WorldState) (event : WorldEvent) → IsValidWorld world → IsProper event → IsValidWorld (wstep world event).0
 unfolding wstep
 event_keeps world (events.Replica id host) valid proper = replica_made world id host valid proper
 event_keeps world (events.Create at apex mailbox moment) valid proper =
@@ -396,7 +396,7 @@ event_keeps world (events.Deliver number) valid proper =
     delivered world (post_at world.packets number) valid (λ post is. post_valid world number post valid is)
 
 -- from a valid world
-pub run_keeps : (now : World × WorldAnswer) (list : List WorldEvent) → IsValidWorld now.0 → AreProper list → IsValidWorld (run_from now list).0
+pub run_keeps : (now : WorldState × WorldAnswer) (list : List WorldEvent) → IsValidWorld now.0 → AreProper list → IsValidWorld (run_from now list).0
 run_keeps now [] valid proper = valid
 run_keeps now (event ∷ rest) valid proper = run_keeps (wstep now.0 event) rest (event_keeps now.0 event valid proper.0) proper.1
 

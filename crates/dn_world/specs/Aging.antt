@@ -7,13 +7,13 @@ use Rattle.dn_link.specs.declared.packet.Packet.{Packet}
 use Rattle.dn_link.specs.declared.packet.Packet.TheVariants as packets
 use Rattle.dn_zone.specs.declared.event.Event.{Event}
 use Rattle.dn_zone.specs.declared.event.Event.TheVariants.{Merge}
-use Rattle.dn_zone.specs.declared.zone.Zone.{Zone}
+use Rattle.dn_zone.specs.State.{ZoneState}
 use Rattle.dn_zone.specs.Aging.{EventAges, Given, given_behind, none_given}
 use Rattle.dn_zone.specs.Zone.{zstep}
 use Rattle.dn_world.specs.declared.event.WorldAnswer.TheVariants as answers
 use Rattle.dn_world.specs.declared.event.WorldEvent.{WorldEvent}
 use Rattle.dn_world.specs.declared.event.WorldEvent.TheVariants as events
-use Rattle.dn_world.specs.declared.world.World.{World}
+use Rattle.dn_world.specs.State.{WorldState}
 use Rattle.dn_world.specs.Runs.{Entry}
 use Rattle.dn_world.specs.World.{is_zone, post_at}
 
@@ -22,23 +22,23 @@ use Rattle.dn_world.specs.World.{is_zone, post_at}
 -- the zone that an event reaches, its place among the zones of the world, which no event changes, and what the event is to it
 pub record Arrival : Type 0 where
   pub place : ℕ
-  pub zone : Zone
+  pub zone : ZoneState
   pub event : Event
 
 -- at the zone of a replica with an apex
-abbrev pub arrival_at : World → ReplicaId → Labels → Event → Option Arrival
+abbrev pub arrival_at : WorldState → ReplicaId → Labels → Event → Option Arrival
 arrival_at world id apex event = do
   place ← position (is_zone id apex) world.zones
   zone ← slice_get world.zones place
   Some (record { place = place; zone = zone; event = event })
 
 -- changes that come to their receiver are merged there
-abbrev pub arrival_with : World → ReplicaId → Packet → Option Arrival
+abbrev pub arrival_with : WorldState → ReplicaId → Packet → Option Arrival
 arrival_with world to (packets.Pull apex from after) = None
 arrival_with world to (packets.Changes changes) = arrival_at world to changes.zone (Merge changes)
 
 -- the zone that an event reaches, where it reaches one
-abbrev pub arrival_of : World → WorldEvent → Option Arrival
+abbrev pub arrival_of : WorldState → WorldEvent → Option Arrival
 arrival_of world (events.Replica id host) = None
 arrival_of world (events.Create at apex mailbox moment) = None
 arrival_of world (events.Join at apex) = None
@@ -74,7 +74,7 @@ pub record ArrivalAges (givens : Givens) (entry : Entry) (reached : Arrival) : T
 
 -- an event that reaches none leaves each zone as it is; new ones may come behind them
 abbrev pub EntryAges : Givens → Entry → Option Arrival → Type 0
-EntryAges givens entry None = (more : List Zone) × (entry.after.zones ≡ entry.before.zones ++ more)
+EntryAges givens entry None = (more : List ZoneState) × (entry.after.zones ≡ entry.before.zones ++ more)
 EntryAges givens entry (Some reached) = ArrivalAges givens entry reached
 
 -- Each entry of a trace ages the zone that it reaches rightly, by what the pass that runs there gave in the entries before.

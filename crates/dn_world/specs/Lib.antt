@@ -3,4 +3,5 @@ pub mod Ask
 pub mod Datagram
 pub mod Laws
 pub mod Runs
+pub mod State
 pub mod World

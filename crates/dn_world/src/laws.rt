@@ -6,7 +6,7 @@ ghost use Rattle.dn_world.specs.Aging.{TraceAges, nothing_given};
 ghost use Rattle.dn_world.specs.Laws.{AgesRightly, AnswersAlike};
 ghost use Rattle.dn_world.specs.Runs.{AreProper, IsValidWorld, trace, wrun};
 ghost use Rattle.dn_world.specs.declared.event.WorldEvent.{WorldEvent};
-ghost use Rattle.dn_world.specs.declared.world.World.{World};
+ghost use Rattle.dn_world.specs.State.{WorldState};
 
 use dn_answer::{answers_are_sendable, equal_replicas_reply_alike};
 
@@ -43,7 +43,7 @@ pub fn zones_age_rightly()
 /// of replies as what it has to say: to a query that reaches a zone the zone's reply, with the query's number, RD and question.
 /// It stands in the contract, and nothing is changed.
 pub fn replies_are_read_rightly()
-    ensures { (world : World) → IsValidWorld world → (at : ℕ) (request : List ℕ) → IsReadRightly world at request (reply_to world at request) }
+    ensures { (world : WorldState) → IsValidWorld world → (at : ℕ) (request : List ℕ) → IsReadRightly world at request (reply_to world at request) }
 {
     answers_are_sendable();
 }

@@ -17,20 +17,29 @@ use dn_pass::Pass;
 use dn_stamp::{ReplicaId, Stamp};
 use dn_store::{Table, UnitKey, UnitValue, Write};
 use std::alloc::Global;
+use std::marker::Model;
 
 /// A zone on one replica.
 #[derive(Drop)]
 pub struct Zone {
-    pub id: ReplicaId,
-    /// The replica's own name, the primary server of the SOA that is answered.
-    pub host: Name,
-    /// The name of the zone, in lower case.
-    pub apex: Name,
-    pub table: Table,
-    /// Up to which number of each supplier's changes it has taken.
-    pub cursors: Cursors,
-    /// The pass that runs.
-    pub pass: Option<Pass>,
+    pub(crate) id: ReplicaId,
+    // The replica's own name, the primary server of the SOA that is answered.
+    pub(crate) host: Name,
+    // The name of the zone, in lower case.
+    pub(crate) apex: Name,
+    pub(crate) table: Table,
+    // Up to which number of each supplier's changes it has taken.
+    pub(crate) cursors: Cursors,
+    // The pass that runs.
+    pub(crate) pass: Option<Pass>,
+}
+
+impl Model for Zone {
+    ghost use Rattle.dn_zone.specs.State.{ZoneState};
+
+    ghost Value = { ZoneState };
+
+    ghost view = { λ it. record { id = it.id; host = it.host; apex = it.apex; table = it.table; cursors = it.cursors; pass = it.pass } };
 }
 
 /// What an event is about to make of a zone: it stays the same, or becomes another. Either way the event is answered.

@@ -1,6 +1,6 @@
 use Rattle.std.proofs.Common.{◌≡◌, ℕ, List, ap, ap₂, drop, sym, ◌∙◌, arith}
 use Rattle.dn_answer.specs.Datagram.{nearer}
-use Rattle.dn_zone.specs.declared.zone.Zone.{Zone}
+use Rattle.dn_zone.specs.State.{ZoneState}
 use Rattle.dn_world.specs.Datagram.{zones_of}
 use Rattle.dn_world.proofs.ViewLemmas.{over, over_end, over_more}
 use Rattle.dn_world.proofs.world.World.zone_over.Goals as goal
@@ -22,4 +22,4 @@ unfolding zones_of
 returns c =
     c.loop-at.invariant.found
     ∙ (let none : c.loop-at.at ≡ 0 = omega (arith, c.loop-at-test.false) in
-    ap₂ (λ (n : ℕ) (list : List Zone). over c.args.id c.args.name.now (drop n list)) none c.as_slice-zones.ensures)
+    ap₂ (λ (n : ℕ) (list : List ZoneState). over c.args.id c.args.name.now (drop n list)) none c.as_slice-zones.ensures)
