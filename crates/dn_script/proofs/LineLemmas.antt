@@ -12,8 +12,8 @@ use Rattle.dn_world.specs.State.{WorldState}
 use Rattle.dn_world.specs.Ask.{world_reply}
 use Rattle.dn_world.specs.Datagram.{received_at, reply_to}
 use Rattle.dn_world.specs.Runs.{run_from}
-use Rattle.dn_script.specs.declared.bad.Bad.{Bad}
-use Rattle.dn_script.specs.declared.bad.Bad.TheVariants as bad
+use Rattle.dn_lines.specs.declared.bad.Bad.{Bad}
+use Rattle.dn_lines.specs.declared.bad.Bad.TheVariants as bad
 use Rattle.dn_script.specs.declared.line.ScriptLine.TheVariants as lines
 use Rattle.dn_script.specs.declared.script.Script.{Script}
 use Rattle.dn_script.specs.Passes.{pass_events, whole_pass}

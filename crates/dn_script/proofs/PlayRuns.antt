@@ -14,14 +14,14 @@ use Rattle.dn_world.specs.Ask.{world_reply}
 use Rattle.dn_world.specs.Datagram.{received_at, reply_to}
 use Rattle.dn_world.specs.Runs.{AreProper, IsValidWorld, run_from, wrun}
 use Rattle.dn_world.proofs.CallerLemmas.{run_keeps, run_then, run_valid, run_world}
-use Rattle.dn_script.specs.declared.bad.Bad.{Bad}
+use Rattle.dn_lines.specs.declared.bad.Bad.{Bad}
 use Rattle.dn_script.specs.declared.line.ScriptLine.{ScriptLine}
 use Rattle.dn_script.specs.declared.line.ScriptLine.TheVariants as lines
 use Rattle.dn_script.specs.declared.script.Script.{Script}
 use Rattle.dn_script.specs.Line.{line_of}
 use Rattle.dn_script.specs.Play.{Played, Step, after_event, after_step, at_moment, besides, events_of, events_or_none, line_events, opening, output_of, play, play_lines, replica_number, replied, run_events, run_line, sent_back, step_text, text_events, with_name}
 use Rattle.dn_script.specs.Play.Stepped.{Steps}
-use Rattle.dn_script.specs.Words.{does_nothing}
+use Rattle.dn_lines.specs.Words.{does_nothing}
 use Rattle.dn_script.proofs.ProperLines.{text_proper}
 
 -- ---- one line

@@ -6,10 +6,11 @@ use Rattle.dn_io.specs.declared.status.Status.TheVariants.{Done, BadLine, Usage,
 use Rattle.dn_io.specs.Lines.{RawLine, lines_of, size_of}
 use Rattle.dn_io.specs.Outside.{AppendsFront, WhereTold}
 use Rattle.dn_script.specs.declared.script.Script.{Script}
-use Rattle.dn_script.specs.Play.{AtEnd, Bad, Ended, Ending, Long, opening, play, play_lines}
+use Rattle.dn_script.specs.Play.{Ended, opening, play, play_lines}
+use Rattle.dn_lines.specs.Said.{AtEnd, Bad, Ending, Long}
 use Rattle.dn_script.specs.Play.Stepped.{Replays}
-use Rattle.dn_script.specs.Said.{EndedFrom, IsFrontWritten, IsSaid, IsWritten}
-use Rattle.dn_script.proofs.SinkLemmas.{front-more, told_map}
+use Rattle.dn_lines.specs.Said.{EndedFrom, IsFrontWritten, IsSaid, IsWritten}
+use Rattle.dn_lines.proofs.CallerLemmas.{front-more, told_map}
 
 -- what lines give is the text of their play, which ends so
 said_play : (lines : List RawLine) (script : Script) (number at : ℕ) (text : List ℕ) (ending : Ending) → IsSaid Replays script number at lines text ending

@@ -22,7 +22,7 @@ use Rattle.dn_script.specs.declared.line.ScriptLine.TheVariants as lines
 use Rattle.dn_script.specs.declared.script.Script.{Script}
 use Rattle.dn_script.specs.Line.{admin_line, ask_line, at_line, create_line, deliver_line, event_line, join_line, line_of, pass_line, pull_line, replica_line, udp_line, zone_line}
 use Rattle.dn_script.specs.Play.{events_of, events_or_none, is_new_name, line_events, replica_number, text_events}
-use Rattle.dn_script.specs.Words.{does_nothing}
+use Rattle.dn_lines.specs.Words.{does_nothing}
 use Rattle.dn_script.proofs.PassRuns.{pass_proper}
 
 abbrev pub IsProperLine : ScriptLine → Type 0

@@ -25,6 +25,7 @@ use Rattle.dn_world.specs.World.{empty_world}
 use Rattle.dn_word.specs.Print.{as_line}
 use Rattle.dn_word.specs.Words.{words_of}
 use Rattle.dn_admin.specs.Answers.{answer_text}
+use Rattle.dn_lines.specs.Said.{Ending, AtEnd, Bad, Long}
 use Rattle.dn_script.specs.declared.line.ScriptLine.{ScriptLine}
 use Rattle.dn_script.specs.declared.line.ScriptLine.TheVariants as lines
 use Rattle.dn_script.specs.declared.script.Script.{Script}
@@ -32,7 +33,7 @@ use Rattle.dn_script.specs.Line.{line_of}
 use Rattle.dn_script.specs.Passes.{pass_events}
 use Rattle.dn_script.specs.Print.{datagram_text, packet_text}
 use Rattle.dn_script.specs.PrintReply.{reply_text}
-use Rattle.dn_script.specs.Words.{does_nothing}
+use Rattle.dn_lines.specs.Words.{does_nothing}
 
 -- the script before its first line: no replica, and hour 1
 unfoldable pub opening : Script
@@ -139,12 +140,6 @@ run_line script line = do
 unfoldable pub step_text : Script → List ℕ → Step
 step_text script text =
     if does_nothing text then Some (script, []) else line_of (words_of text) >>= run_line script
-
--- how a script ends: each line was valid, or this line is the first that isn't, or a line is over-long
-pub data Ending : Type 0 where
-  AtEnd : Ending
-  Bad : ℕ → Ending
-  Long : Ending
 
 abbrev pub events_or_none : Option (List WorldEvent) → List WorldEvent
 events_or_none None = []

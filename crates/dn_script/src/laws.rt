@@ -1,4 +1,4 @@
-//! What holds of the play of every script, and of what lines of stored values give.
+//! What holds of the play of every script.
 
 ghost use Rattle.std.specs.Prelude.{◌≡◌, ℕ, false, List};
 ghost use Rattle.dn_name.specs.Name.{Labels};
@@ -8,14 +8,7 @@ ghost use Rattle.dn_world.specs.Runs.{run_from, wrun};
 ghost use Rattle.dn_script.specs.Laws.{IsOneRun, PassesAreWhole};
 ghost use Rattle.dn_script.specs.Passes.{is_moved, pass_events};
 ghost use Rattle.dn_script.specs.Play.{play};
-ghost use Rattle.dn_script.specs.Said.{IsSaidOnce};
-ghost use Rattle.dn_script.specs.ValueLaws.{Laws, PackedIsShown, ShownIsPacked};
-ghost use Rattle.dn_script.specs.Values.{IsPacked, IsShown};
 
-use dn_property::{
-    properties_are_in_range, properties_are_spelled_once, properties_have_one_spelling,
-};
-use dn_record::{records_are_in_range, stored_records_are_spelled_once};
 use dn_world::{
     replicas_answer_alike, replies_are_read_rightly, worlds_stay_valid, zones_age_rightly,
 };
@@ -41,45 +34,4 @@ pub fn a_play_is_one_run()
 pub fn whole_passes_end()
     ensures whole { (list : List WorldEvent) → PassesAreWhole (wrun list) }
     ensures last { (list : List WorldEvent) (at moment : ℕ) (apex : Labels) → is_moved (run_from (wrun list, Made) (pass_events (wrun list) at apex moment)).1 ≡ false }
-{}
-
-// The laws of stored values of the crates below, handed on as one.
-fn values_are_one()
-    ensures { Laws }
-{
-    stored_records_are_spelled_once();
-    dn_record::first_faults_are_one();
-    properties_are_spelled_once();
-    properties_have_one_spelling();
-    dn_property::first_faults_are_one();
-    records_are_in_range();
-    properties_are_in_range();
-}
-
-/// The law that what `show` gives for an input is one text, with one end. It stands in the contract, and nothing runs.
-pub fn shown_texts_are_one()
-    ensures { IsSaidOnce IsShown }
-{
-    values_are_one();
-}
-
-/// The law that what `pack` gives for an input is one text, with one end. It stands in the contract, and nothing runs.
-pub fn packed_texts_are_one()
-    ensures { IsSaidOnce IsPacked }
-{
-    values_are_one();
-}
-
-/// The law that the line which is shown of a value's bytes is packed into the line of these bytes, with its hex digits in lower
-/// case. It stands in the contract, and nothing runs.
-pub fn shown_values_are_packed()
-    ensures { ShownIsPacked }
-{
-    values_are_one();
-}
-
-/// The law that the line of a value's bytes is shown as the printed line of this value. It stands in the contract, and nothing
-/// runs.
-pub fn packed_values_are_shown()
-    ensures { PackedIsShown }
 {}

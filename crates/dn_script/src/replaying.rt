@@ -4,10 +4,9 @@ ghost use Rattle.dn_world.specs.Runs.{IsValidWorld};
 ghost use Rattle.dn_script.specs.Play.{Ended, play};
 ghost use Rattle.dn_script.specs.Play.Stepped.{Replays};
 
-use crate::bad::Bad;
-use crate::lines_run::{LineCommand, run_lines};
 use crate::script::Script;
 use dn_io::{List, Sink, Source, Status};
+use dn_lines::{Bad, LineCommand, run_lines};
 use std::alloc::Global;
 
 // A replay runs each line in the script so far.

@@ -4,16 +4,15 @@ ghost use Rattle.dn_world.specs.Runs.{IsValidWorld};
 ghost use Rattle.dn_script.specs.Play.Stepped.{GivesOrLacks, GivesOrRefuses, Steps};
 
 use crate::asking::{value_in, write_question};
-use crate::bad::Bad;
 use crate::line::{ScriptLine, line_of};
 use crate::names::Names;
 use crate::passes::whole_pass;
 use crate::print::{datagram_line, packet_line};
 use crate::print_reply::reply_text;
-use crate::words::work_of;
 use dn_admin::answer_line;
 use dn_answer::write_reply;
 use dn_io::{List, Moment};
+use dn_lines::{Bad, work_of};
 use dn_name::Name;
 use dn_stamp::ReplicaId;
 use dn_word::TextError;

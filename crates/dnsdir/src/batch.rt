@@ -7,7 +7,7 @@ ghost use Rattle.dn_world.specs.Laws.{AnswersAlike};
 ghost use Rattle.dn_world.specs.Runs.{AreProper, IsValidWorld, trace, wrun};
 ghost use Rattle.dn_script.specs.Laws.{IsOneRun, PassesAreWhole};
 ghost use Rattle.dn_script.specs.Play.{play};
-ghost use Rattle.dn_script.specs.ValueLaws.{PackedIsShown, ShownIsPacked};
+ghost use Rattle.dn_lines.specs.ValueLaws.{PackedIsShown, ShownIsPacked};
 ghost use Rattle.dnsdir.specs.Batch.{EndedAs, IsDoneOrWant, IsValid, is_batch};
 ghost use Rattle.dnsdir.specs.Command.{command_in};
 
