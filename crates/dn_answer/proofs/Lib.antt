@@ -1,13 +1,17 @@
+pub mod AlikeReplies
 pub mod BelowLemmas
 pub mod CallerLemmas
+pub mod DatagramLemmas
 pub mod EqualReplies
 pub mod GlueLemmas
 pub mod LookupLemmas
 pub mod NamedLemmas
 pub mod NamesBelow
 pub mod RefusalLemmas
+pub mod RepliesRead
 pub mod SendableReplies
 pub mod SentLemmas
+pub mod ToldLemmas
 pub mod ValidRows
 pub mod ValidSoaLemmas
 pub mod WalkLemmas

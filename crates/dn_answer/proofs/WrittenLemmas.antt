@@ -16,7 +16,7 @@ use Rattle.dn_message.specs.declared.writer.Section.TheVariants.{Additional, Ans
 use Rattle.dn_message.specs.Fields.{two_bytes}
 use Rattle.dn_message.specs.Pieces.{body_of, bytes_of, counts_of, header_of, question_bytes, row_bytes, with_row}
 use Rattle.dn_message.specs.Record.{fields}
-use Rattle.dn_message.specs.Writer.{Accepts, Holds, MayGrow, size}
+use Rattle.dn_message.specs.Writer.{Accepts, Holds, KeepsRest, MayGrow, size}
 use Rattle.dn_answer.specs.declared.reply.AnswerValue.{AnswerValue}
 use Rattle.dn_answer.specs.Sendable.{IsSendable, reply_len, rr_len, sent}
 use Rattle.dn_answer.specs.Written.{EndsIn, Fits, Writes, sent_with, with_rows}
@@ -167,13 +167,14 @@ take_next rows at row is within = take_more rows at row within ∙ ap (λ here. 
 pub record Goes (first : ReplyWriter) (section : Section) (rows : List Rr) (at : ℕ) (now : ReplyWriter) : Type 0 where
   pub same_reference : now.out.ghost_name ≡ first.out.ghost_name
   pub same_size : size now ≡ size first
+  pub keeps : (before : List ℕ) → KeepsRest before first → KeepsRest before now
   pub writes : Writes first section (take at rows) now
   pub fits : Fits now section (drop at rows)
 
 module _ (first : ReplyWriter) (section : Section) (rows : List Rr) where
   pub goes_first : Fits first section rows → Goes first section rows 0 first
   goes_first fits =
-      record { same_reference = refl; same_size = refl; writes = λ reply holds. subst (Holds first) (with_none reply section) holds; fits = fits }
+      record { same_reference = refl; same_size = refl; keeps = λ before kept. kept; writes = λ reply holds. subst (Holds first) (with_none reply section) holds; fits = fits }
 
   pub goes_last : (at : ℕ) (now : ReplyWriter) → length rows ≤ at → Goes first section rows at now → Writes first section rows now
   goes_last at now over goes = subst (λ done. Writes first section done now) (take_all at rows over) goes.writes
@@ -198,12 +199,14 @@ module _ (first : ReplyWriter) (section : Section) (rows : List Rr) where
             no_room_never old section row (drop (at + 1) rows) fits_here bytes same new same_size error (refuses fits_here.reply fits_here.holds)
 
         pub goes_next : (done : Unit {0}) → new.out.ghost_name ≡ old.out.ghost_name
+            → ((before : List ℕ) → KeepsRest before old → KeepsRest before new)
             → ((reply : Reply) → Holds old reply → Accepts new (Ok done) reply (with_row reply section (given row bytes)))
             → Goes first section rows (at + 1) new
-        goes_next done reference accepts =
+        goes_next done reference keeps accepts =
             record {
               same_reference = reference ∙ goes.same_reference;
               same_size = same_size ∙ goes.same_size;
+              keeps = λ before kept. keeps before (goes.keeps before kept);
               writes = λ reply holds. subst (Holds new)
                   (ap (with_row (with_rows reply section (take at rows)) section) (same_row old section row (drop (at + 1) rows) fits_here bytes same)
                   ∙ with_last reply section (take at rows) row ∙ ap (with_rows reply section) (sym (take_next rows at row is within)))

@@ -1,10 +1,12 @@
 pub mod Alike
 pub mod Answer
 pub mod Below
+pub mod Datagram
 pub mod Glue
 pub mod Rows
 pub mod Sendable
 pub mod Size
 pub mod Told
+pub mod View
 pub mod Walk
 pub mod Written

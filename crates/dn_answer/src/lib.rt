@@ -3,6 +3,7 @@
 #![tactic(auto)]
 
 mod alike;
+mod datagrams;
 mod glue;
 mod lookups;
 mod reply;
@@ -12,12 +13,15 @@ mod sendable;
 mod size;
 mod threads;
 mod told;
+mod view;
 mod walk;
 mod writing;
 
-pub use alike::equal_replicas_answer_alike;
+pub use alike::{equal_replicas_answer_alike, equal_replicas_reply_alike};
+pub use datagrams::{Received, is_refused, write_reply};
 pub use reply::AnswerValue;
 pub use replying::{answer, refused};
 pub use sendable::answers_are_sendable;
 pub use told::value_of;
+pub use view::ZoneView;
 pub use writing::write_answer;

@@ -1,10 +1,10 @@
 //! Answers as bytes.
 
-ghost use Rattle.std.specs.Prelude.{◌≡◌, ◌≤◌, [], length, take};
+ghost use Rattle.std.specs.Prelude.{◌≡◌, ℕ, ◌≤◌, List, [], length, take, drop};
 ghost use Rattle.dn_rdata.specs.Types.{IN};
 ghost use Rattle.dn_message.specs.Pieces.{bytes_of};
 ghost use Rattle.dn_message.specs.Reply.{IsReply};
-ghost use Rattle.dn_message.specs.Writer.{Holds, size};
+ghost use Rattle.dn_message.specs.Writer.{Holds, KeepsRest, size};
 ghost use Rattle.dn_answer.specs.Sendable.{IsSendable, sent};
 ghost use Rattle.dn_answer.specs.Written.{Fits, Writes, sent_with};
 
@@ -12,7 +12,7 @@ use crate::reply::AnswerValue;
 use dn_message::{Query, ReplyHead, ReplyWriter, Rr, Section};
 
 /// Writes the reply to a query of class IN at the front of the buffer, and answers how many bytes it takes, which are 512
-/// at most. Number, RD and question are the query's; no name has a pointer. It takes no memory.
+/// at most; the bytes behind stay. Number, RD and question are the query's; no name has a pointer. It takes no memory.
 pub fn write_answer(query: &Query, reply: &AnswerValue, out: &mut [u8]) -> usize
     requires class { query.now.qclass ≡ IN }
     requires sendable { IsSendable query.now.name reply.now }
@@ -21,6 +21,7 @@ pub fn write_answer(query: &Query, reply: &AnswerValue, out: &mut [u8]) -> usize
     ensures read { IsReply (take result out.new) (sent query.now reply.now) }
     ensures len { (12 ≤ result) × (result ≤ 512) }
     ensures kept { length out.new ≡ length out.old }
+    ensures rest { drop result out.new ≡ drop result out.old }
 {
     let mut writer = begin_answer(query, reply, out);
     write_rows(&mut writer, Section::Answer, reply.answer.as_slice());
@@ -40,6 +41,7 @@ fn begin_answer<'b>(query: &Query, reply: &AnswerValue, out: &'b mut [u8]) -> Re
     requires room { 512 ≤ length out.old }
     ensures same_reference { result.out.ghost_name ≡ out.entry.ghost_name }
     ensures size { size result ≡ length out.old }
+    ensures keeps { KeepsRest out.old result }
     ensures holds { Holds result (sent_with query.now reply.now [] [] []) }
 {
     let head = ReplyHead {
@@ -61,6 +63,7 @@ fn write_rows(writer: &mut ReplyWriter<'_>, section: Section, rows: &[Rr])
     requires { Fits writer.old section rows.now }
     ensures same_reference { writer.new.out.ghost_name ≡ writer.old.out.ghost_name }
     ensures size { size writer.new ≡ size writer.old }
+    ensures keeps { (before : List ℕ) → KeepsRest before writer.old → KeepsRest before writer.new }
     ensures writes { Writes writer.old section rows.now writer.new }
 {
     for row in rows {

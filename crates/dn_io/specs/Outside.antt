@@ -21,10 +21,10 @@ abbrev pub TakesSome : {E : Type 0} → Result ℕ E → List ℕ → Type 0
 TakesSome r bytes = IfOk r (λ k. (k ≤ length bytes) × (0 < length bytes → 0 < k))
 
 -- Where bytes are told before, they are told after too, and the two are related so.
-abbrev pub Told : Option (List ℕ) → Option (List ℕ) → (List ℕ → List ℕ → Type 0) → Type 0
-Told None now P = ⊤
-Told (Some before) None P = ⊥
-Told (Some before) (Some now) P = P before now
+abbrev pub WhereTold : Option (List ℕ) → Option (List ℕ) → (List ℕ → List ℕ → Type 0) → Type 0
+WhereTold None now P = ⊤
+WhereTold (Some before) None P = ⊥
+WhereTold (Some before) (Some now) P = P before now
 
 -- Where bytes are told, they have grown by a front of these.
 abbrev pub AppendsFront : Option (List ℕ) → Option (List ℕ) → List ℕ → Type 0

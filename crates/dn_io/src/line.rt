@@ -1,7 +1,7 @@
 ghost use Rattle.std.specs.Prelude.{◌≡◌, ◌⊎◌, ◌≢◌, ℕ, ◌+◌, ◌<◌, ◌≤◌, ⊤, false, List, [], None, Some, Ok, Err, IfErr, IfOk, MatchOption, drop, length, vec_len, OnOk, OnSome, ◌^◌};
 ghost use Rattle.std.specs.Io.KnownBytes.{IsAtEnd};
 ghost use Rattle.dn_io.specs.Lines.{Advances, AnswersKept, Held, KeepsError, ReadsLine, read_faults_after, without_return};
-ghost use Rattle.dn_io.specs.Outside.{Rose, Told};
+ghost use Rattle.dn_io.specs.Outside.{Rose, WhereTold};
 ghost use Rattle.dn_io.specs.Reading.{Cuts, EndsWith, FeedAt, FeedFree, Fills, Takes, overlong};
 
 use crate::{List, OutOfMemory, Source};
@@ -89,7 +89,7 @@ pub fn read_line<S: Source>(
 ) -> Result<Line, LineError>
     // Where the source tells, the answer is that of the lines ahead.
     ensures line { buf.old.kept ≡ None →
-        Told (S.left source.old) (S.left source.new) (λ before now. ReadsLine buf.old before result buf.new now) }
+        WhereTold (S.left source.old) (S.left source.new) (λ before now. ReadsLine buf.old before result buf.new now) }
     // The end comes only where nothing is held, told or not.
     ensures end { result ≡ Ok Line.End → (buf.old.kept ≡ None) × (buf.old.bytes ≡ []) }
     // A read fault has its cause in the source, or in the call before.
@@ -127,7 +127,7 @@ fn next_line<S: Source>(
     taken: &mut u64,
 ) -> Result<Line, LineError>
     requires { 0 < length chunk.old }
-    ensures line { Told (S.left source.old) (S.left source.new) (λ before now.
+    ensures line { WhereTold (S.left source.old) (S.left source.new) (λ before now.
         ReadsLine (record { bytes = held.old.items; taken = taken.old; kept = None }) before result
         (record { bytes = held.new.items; taken = taken.new; kept = None }) now) }
     ensures end { result ≡ Ok Line.End → held.old.items ≡ [] }

@@ -1,4 +1,4 @@
-ghost use Rattle.std.specs.Prelude.{◌≡◌, ◌==◌, [], ◌∷◌, ◌++◌, length, slice_get, slice_set, ◌<◌, option_copied, OnOk, OnErr, IfOk};
+ghost use Rattle.std.specs.Prelude.{◌≡◌, ◌==◌, [], ◌∷◌, ◌++◌, length, take, slice_get, slice_set, ◌<◌, option_copied, OnOk, OnErr, IfOk};
 
 use crate::{Duplicate, OutOfMemory};
 use std::alloc::Global;
@@ -110,6 +110,25 @@ impl List<u8> {
     {
         Ok(self.items.extend_from_slice(bytes)?)
     }
+
+    /// Adds two pieces at the end, both of them or none.
+    ///
+    /// # Errors
+    /// `OutOfMemory` where the growth was refused; the list is then as before.
+    pub fn extend_both(&mut self, first: &[u8], second: &[u8]) -> Result<(), OutOfMemory>
+        ensures ok { OnOk result (self.new ≡ self.old ++ first.now ++ second.now) }
+        ensures err { OnErr result (self.new ≡ self.old) }
+    {
+        // With the room for both taken, the second can't be refused behind the first.
+        self.items.reserve(first.len() + second.len())?;
+        if self.items.extend_from_slice(first).is_err() {
+            unreachable!()
+        }
+        if self.items.extend_from_slice(second).is_err() {
+            unreachable!()
+        }
+        Ok(())
+    }
 }
 
 impl<T: Duplicate + Drop> List<T> {
@@ -124,16 +143,32 @@ impl<T: Duplicate + Drop> List<T> {
         let mut list = List {
             items: Vec::with_capacity(alloc, items.len())?,
         };
-        list.extend_copies(alloc, items)?;
+        list.push_copies(alloc, items)?;
         Ok(list)
     }
 
-    /// Adds copies of items at the end.
+    /// Adds copies of items at the end, all of them or none.
     ///
     /// # Errors
-    /// `OutOfMemory`; some of the items may then have been added.
+    /// `OutOfMemory` where the growth or a copy was refused; the list is then as before.
     pub fn extend_copies(&mut self, alloc: Global, items: &[T]) -> Result<(), OutOfMemory>
-        ensures { OnOk result (self.new ≡ self.old ++ items.now) }
+        ensures ok { OnOk result (self.new ≡ self.old ++ items.now) }
+        ensures err { OnErr result (self.new ≡ self.old) }
+    {
+        // What refuses the room refuses it before a copy is made.
+        self.items.reserve(items.len())?;
+        let before = self.items.len();
+        let done = self.push_copies(alloc, items);
+        if done.is_err() {
+            self.items.truncate(before);
+        }
+        done
+    }
+
+    // Adds copies of items at the end, on an error some of them.
+    fn push_copies(&mut self, alloc: Global, items: &[T]) -> Result<(), OutOfMemory>
+        ensures ok { OnOk result (self.new ≡ self.old ++ items.now) }
+        ensures front { self.old ≡ take (length self.old) self.new }
     {
         for item in items {
             self.push(item.copy(alloc)?)?;

@@ -12,9 +12,10 @@ use Rattle.dn_message.specs.declared.writer.ReplyHead.{ReplyHead}
 use Rattle.dn_message.specs.declared.writer.ReplyWriter.{ReplyWriter}
 use Rattle.dn_message.specs.declared.writer.Section.{Section}
 use Rattle.dn_message.specs.declared.writer.Section.TheVariants.{Additional, Answer, Authority}
+use Rattle.dn_message.specs.Header.{header_len}
 use Rattle.dn_message.specs.Pieces.{begun, body_of, bytes_of, counts_of, flags_of, header_of, header_with, question_bytes, row_bytes, with_question, with_row}
 use Rattle.dn_message.specs.Reply.{IsReply}
-use Rattle.dn_message.specs.Writer.{AreValid, Holds, IsAsked, IsRow, MayAsk, MayGrow, one_more, size}
+use Rattle.dn_message.specs.Writer.{AreValid, Holds, IsAsked, IsRow, KeepsRest, MayAsk, MayGrow, buffer, one_more, size}
 use Rattle.dn_message.specs.Writing.{Appends}
 use Rattle.dn_message.proofs.PieceLemmas.{bytes_size, question_on, row_on}
 use Rattle.dn_message.proofs.ReadBackLemmas.{FlagsFit, code_fits, read_back}
@@ -65,6 +66,19 @@ module _ (old : ReplyWriter) (before : Reply) (holds : Holds old before) (after 
 
   refused : size old - old.place < length piece → Holds old before × (size old < length (bytes_of after))
   refused short = (holds, omega (arith, size_is, short, holds.within))
+
+-- ---- what stands behind the pieces
+
+further : (place more next : ℕ) (xs ys : List ℕ) → next ≡ place + more → drop place xs ≡ drop place ys → drop next xs ≡ drop next ys
+further place more next xs ys is same =
+    ap (λ k. drop k xs) is ∙ sym (drop-drop more place xs) ∙ ap (drop more) same ∙ drop-drop more place ys ∙ sym (ap (λ k. drop k ys) is)
+
+pub keeps_on : (old : ReplyWriter) (piece : List ℕ) (new : ReplyWriter) → Appends old.place (buffer old) piece new.place (buffer new)
+    → (before : List ℕ) → KeepsRest before old → KeepsRest before new
+keeps_on old piece new appends before keeps = record {
+  behind_header = omega (arith, keeps.behind_header, appends.next_is);
+  rest = appends.rest ∙ further old.place (length piece) new.place (buffer old) before appends.next_is keeps.rest;
+}
 
 -- ---- a question
 
@@ -157,8 +171,8 @@ module _ (writer : ReplyWriter) (reply : Reply) (holds : Holds writer reply) (he
   pub finished : IsReply (take writer.place new) reply × (writer.place ≡ length (bytes_of reply))
   finished = (read_back (take writer.place new) reply finished_bytes holds.valid (flags_fit writer.head reply holds.head_is), holds.place_is)
 
-  pub rest_kept : drop writer.place new ≡ drop writer.place writer.out.now
-  rest_kept =
-      let rest = writer.place - 12 in
-      let place_is : writer.place ≡ next + rest = omega (arith, holds.place_is, bytes_size reply, twelve) in
-      ap (λ k. drop k new) place_is ∙ sym (drop-drop rest next new) ∙ ap (drop rest) appends.rest ∙ drop-drop rest next writer.out.now ∙ sym (ap (λ k. drop k writer.out.now) place_is)
+-- the header is before the place, and what stands behind it stays
+pub rest_kept : (writer : ReplyWriter) (before header new : List ℕ) (next : ℕ) → length header ≡ header_len → Appends 0 (buffer writer) header next new
+    → KeepsRest before writer → drop writer.place new ≡ drop writer.place before
+rest_kept writer before header new next len appends keeps =
+    further next (writer.place - next) writer.place new (buffer writer) (omega (arith, appends.next_is, len, keeps.behind_header)) appends.rest ∙ keeps.rest

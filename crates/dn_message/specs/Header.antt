@@ -51,6 +51,10 @@ rcodes = NoError ∷ FormErr ∷ ServFail ∷ NxDomain ∷ NotImp ∷ Refused �
 abbrev pub rcode_of_number : ℕ → Option Rcode
 rcode_of_number number = slice_get rcodes number
 
+-- how many bytes a header has
+abbrev pub header_len : ℕ
+header_len = 12
+
 -- the message's number, its flags, and how many entries each section has
 pub record IsHeader (message : List ℕ) (number flags questions answers authorities additional : ℕ) : Type 0 where
   pub number_stands : Stands message 0 (two_bytes number) 2

@@ -4,6 +4,7 @@ pub mod Header
 pub mod Kind
 pub mod Pieces
 pub mod Laws
+pub mod NameFaults
 pub mod Query
 pub mod QueryOf
 pub mod Reading

@@ -1,5 +1,5 @@
 -- What a writer of replies holds, and what it does with one piece more.
-use Rattle.std.specs.Prelude.{◌≡◌, ℕ, ◌+◌, ◌<◌, ◌≤◌, ◌^◌, length, take, drop, Result, Ok, Err}
+use Rattle.std.specs.Prelude.{◌≡◌, ℕ, ◌+◌, ◌<◌, ◌≤◌, ◌^◌, List, length, take, drop, Result, Ok, Err}
 use Rattle.std.specs.List.{AllByRecursion}
 use Rattle.dn_name.specs.Name.{IsName}
 use Rattle.dn_name.specs.declared.error.NoRoom.{NoRoom}
@@ -12,6 +12,7 @@ use Rattle.dn_message.specs.declared.counts.Counts.{Counts}
 use Rattle.dn_message.specs.declared.writer.ReplyWriter.{ReplyWriter}
 use Rattle.dn_message.specs.declared.writer.Section.{Section}
 use Rattle.dn_message.specs.declared.writer.Section.TheVariants.{Additional, Answer, Authority}
+use Rattle.dn_message.specs.Header.{header_len}
 use Rattle.dn_message.specs.Pieces.{begun, body_of, bytes_of, counts_of}
 
 -- ---- when a piece may come
@@ -42,9 +43,13 @@ Counted (Err error) old new after = new ≡ old
 
 -- ---- what a writer holds
 
--- how many bytes its buffer has
+-- the bytes of its buffer
+abbrev pub buffer : ReplyWriter → List ℕ
+buffer writer = writer.out.now
+
+-- how many these are
 abbrev pub size : ReplyWriter → ℕ
-size writer = length writer.out.now
+size writer = length (buffer writer)
 
 abbrev pub IsAsked : Question → Type 0
 IsAsked question = IsName question.name
@@ -69,8 +74,13 @@ pub record Holds (writer : ReplyWriter) (reply : Reply) : Type 0 where
   pub counts_are : writer.counts ≡ counts_of reply
   pub place_is : writer.place ≡ length (bytes_of reply)
   pub within : writer.place ≤ size writer
-  pub body_is : drop 12 (take writer.place writer.out.now) ≡ body_of reply
+  pub body_is : drop header_len (take writer.place (buffer writer)) ≡ body_of reply
   pub valid : AreValid reply
+
+-- behind the header and the pieces the buffer has the bytes that it had before the first of them
+pub record KeepsRest (before : List ℕ) (writer : ReplyWriter) : Type 0 where
+  pub behind_header : header_len ≤ writer.place
+  pub rest : drop writer.place (buffer writer) ≡ drop writer.place before
 
 -- with one piece more, the writer has it and it fits, or the writer is as before and it doesn't fit
 abbrev pub Accepts : ReplyWriter → Result (Unit {0}) NoRoom → Reply → Reply → Type 0

@@ -1,3 +1,6 @@
+ghost use Rattle.std.specs.Prelude.{◌≡◌};
+ghost use Rattle.dn_message.specs.declared.error.FormFault.TheVariants as faults;
+
 use dn_io::OutOfMemory;
 use dn_name::{NameError, NameFault};
 
@@ -61,7 +64,7 @@ impl From<OutOfMemory> for ReadError {
     }
 }
 
-// The fault of a field that the message's end cuts.
+// A field that the message's end cuts.
 pub(crate) fn cut(bytes: &[u8]) -> FormError {
     FormError {
         place: bytes.len(),
@@ -69,8 +72,9 @@ pub(crate) fn cut(bytes: &[u8]) -> FormError {
     }
 }
 
-// The fault of a name in the message.
-pub(crate) fn name_fault(error: NameError) -> FormError {
+pub(crate) fn name_fault(error: NameError) -> FormError
+    ensures { result ≡ record { place = error.place; kind = faults.Name error.kind } }
+{
     FormError {
         place: error.place,
         kind: FormFault::Name(error.kind),

@@ -1,8 +1,10 @@
 //! Queries (RFC 1035 4.1, RFC 6891 6.1).
 
-ghost use Rattle.std.specs.Prelude.{◌≡◌};
+ghost use Rattle.std.specs.Prelude.{◌≡◌, IfErr};
 ghost use Rattle.std.specs.Result.{result_ok};
 ghost use Rattle.dn_name.specs.Exact.{Exact};
+ghost use Rattle.dn_message.specs.Header.{header_len};
+ghost use Rattle.dn_message.specs.NameFaults.{HasNoName, HasQueryHeader, IsFaultOfName};
 ghost use Rattle.dn_message.specs.Query.{IsQuery};
 ghost use Rattle.dn_message.specs.QueryOf.{query_of};
 
@@ -41,12 +43,14 @@ pub struct Query {
 ///
 /// # Errors
 /// Exactly where the bytes are no query. The fault is the first one in the order of the fields: Short, at the message's
-/// end, for a field that is cut; Name with the name's fault; QuestionCount at 4 where there isn't one question;
-/// SectionCount at 6 or 8 where there are records of answer or authority; TwoOpts at the first byte of a second OPT
-/// record; Trailing at the first byte behind the last record.
+/// end, for a field that is cut; Name with what is wrong first with a name, and its place; QuestionCount at 4 where there
+/// isn't one question; SectionCount at 6 or 8 where there are records of answer or authority; TwoOpts at the first byte of
+/// a second OPT record; Trailing at the first byte behind the last record. The contract says kind and place where the
+/// header is a query's and the question's name is at fault.
 pub fn read_query(bytes: &[u8]) -> Result<Query, FormError>
     ensures exact { Exact (IsQuery bytes.now) result }
     ensures value { result_ok result ≡ query_of bytes.now }
+    ensures fault { IfErr result (λ error. HasQueryHeader bytes.now → HasNoName bytes.now header_len → IsFaultOfName bytes.now header_len error) }
 {
     let header = read_query_header(bytes)?;
     let (name, behind) = read_name(bytes, 12)?;

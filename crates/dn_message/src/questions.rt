@@ -1,7 +1,8 @@
 //! Questions, one behind the other (RFC 1035 4.1.2).
 
-ghost use Rattle.std.specs.Prelude.{ℕ, ◌≤◌, List as Seq, length, IfOk};
+ghost use Rattle.std.specs.Prelude.{ℕ, ◌≤◌, List as Seq, length, IfErr, IfOk};
 ghost use Rattle.dn_name.specs.Exact.{Exact};
+ghost use Rattle.dn_message.specs.NameFaults.{HasNoName, IsFaultOfName};
 ghost use Rattle.dn_message.specs.Reads.{Reads};
 ghost use Rattle.dn_message.specs.Reply.{IsQuestion};
 ghost use Rattle.dn_message.specs.ReplyReading.{AreEntries};
@@ -40,6 +41,7 @@ fn read_question(bytes: &[u8], at: usize) -> Result<(Question, usize), FormError
     requires { at ≤ length bytes.now }
     ensures exact { Exact (λ (found : Asked × ℕ). IsQuestion bytes.now at found.0 found.1) result }
     ensures within { IfOk result (λ found. found.1 ≤ length bytes.now) }
+    ensures fault { IfErr result (λ error. HasNoName bytes.now at → IsFaultOfName bytes.now at error) }
 {
     let (name, behind) = read_name(bytes, at)?;
     let (qtype, qclass) = read_type_and_class(bytes, behind)?;

@@ -1,9 +1,10 @@
 //! One record of a message (RFC 1035 4.1.3).
 
-ghost use Rattle.std.specs.Prelude.{◌≡◌, ℕ, ◌+◌, ◌<◌, ◌≤◌, List, ◌++◌, length, IfOk, IfNone, IfSome, OnErr};
+ghost use Rattle.std.specs.Prelude.{◌≡◌, ℕ, ◌+◌, ◌<◌, ◌≤◌, List, ◌++◌, length, IfErr, IfOk, IfNone, IfSome, OnErr};
 ghost use Rattle.dn_name.specs.Exact.{Exact};
 ghost use Rattle.dn_name.specs.Name.{Labels};
 ghost use Rattle.dn_name.specs.Spelled.{Spelled};
+ghost use Rattle.dn_message.specs.NameFaults.{HasNoName, IsFaultOfName};
 ghost use Rattle.dn_message.specs.Record.{fields};
 ghost use Rattle.dn_message.specs.Reading.{IsHead, Passes};
 
@@ -26,6 +27,7 @@ pub(crate) fn pass_record(bytes: &[u8], at: usize) -> Result<(RecordHead, usize)
     requires { at ≤ length bytes.now }
     ensures passes { Passes bytes.now at result }
     ensures within { IfOk result (λ found. found.1 ≤ length bytes.now) }
+    ensures fault { IfErr result (λ error. HasNoName bytes.now at → IsFaultOfName bytes.now at error) }
 {
     let (head, place) = read_head(bytes, at)?;
     let next = behind_data(bytes, place, head.len)?;
@@ -51,6 +53,7 @@ pub(crate) fn read_head(bytes: &[u8], at: usize) -> Result<(RecordHead, usize), 
     requires { at ≤ length bytes.now }
     ensures exact { Exact (λ (found : RecordHead × ℕ). IsHead bytes.now at found.0 found.1) result }
     ensures within { IfOk result (λ found. found.1 ≤ length bytes.now) }
+    ensures fault { IfErr result (λ error. HasNoName bytes.now at → IsFaultOfName bytes.now at error) }
 {
     let (name, behind) = read_name(bytes, at)?;
     let (_, rest) = bytes.split_at(behind);
@@ -83,6 +86,7 @@ pub(crate) fn read_name(bytes: &[u8], at: usize) -> Result<(Name, usize), FormEr
     requires { at ≤ length bytes.now }
     ensures exact { Exact (λ (found : Labels × ℕ). Spelled bytes.now at found.0 found.1) result }
     ensures within { IfOk result (λ found. found.1 ≤ length bytes.now) }
+    ensures fault { IfErr result (IsFaultOfName bytes.now at) }
 {
     match Name::read_wire(bytes, at) {
         Ok(found) => Ok(found),

@@ -48,9 +48,9 @@ pub struct Reply {
 ///
 /// # Errors
 /// `Form` only where the bytes are no reply. The fault is the first one in the order of the fields: Short, at the message's
-/// end, for a field that is cut; NotReply at 2 for a message whose flags don't say that it is a reply; Name with the
-/// name's fault, for owners of records and names of questions; BadRdata at the first byte of data of class IN that aren't
-/// of their type's form; Trailing at the first byte behind the last record. `OutOfMemory`.
+/// end, for a field that is cut; NotReply at 2 for a message whose flags don't say that it is a reply; Name with what is
+/// wrong first with the name, and its place, for owners of records and names of questions; BadRdata at the first byte of data
+/// of class IN that aren't of their type's form; Trailing at the first byte behind the last record. `OutOfMemory`.
 pub fn read_reply(alloc: Global, bytes: &[u8]) -> Result<Reply, ReadError>
     ensures exact { Reads (IsReply bytes.now) result }
 {

@@ -1,12 +1,13 @@
 //! Replies as bytes, written piece by piece into a buffer.
 
-ghost use Rattle.std.specs.Prelude.{◌≡◌, ◌-◌, ◌<◌, ◌≤◌, ◌^◌, length, take, drop};
+ghost use Rattle.std.specs.Prelude.{◌≡◌, ℕ, ◌-◌, ◌<◌, ◌≤◌, ◌^◌, List, length, take, drop, OnErr};
 ghost use Rattle.dn_rdata.specs.Layout.{IsData};
 ghost use Rattle.dn_rdata.specs.Types.{IN};
 ghost use Rattle.dn_message.specs.declared.reply.Reply.{Reply};
 ghost use Rattle.dn_message.specs.Pieces.{begun, bytes_of, with_question, with_row};
 ghost use Rattle.dn_message.specs.Reply.{IsReply};
-ghost use Rattle.dn_message.specs.Writer.{Accepts, Counted, Holds, MayAsk, MayGrow, one_more, size};
+ghost use Rattle.dn_message.specs.Header.{header_len};
+ghost use Rattle.dn_message.specs.Writer.{Accepts, Counted, Holds, KeepsRest, MayAsk, MayGrow, buffer, one_more, size};
 
 use crate::counts::Counts;
 use crate::pieces::{bytes_of_header, put_question, put_row, question_len, row_len};
@@ -68,11 +69,13 @@ pub struct ReplyWriter<'b> {
 }
 
 impl<'b> ReplyWriter<'b> {
-    /// Begins a reply that has no pieces.
+    /// Begins a reply that has no pieces. The buffer stays as it is.
     pub fn begin(out: &'b mut [u8], head: ReplyHead) -> ReplyWriter<'b>
-        requires { 12 ≤ length out.old }
+        requires { header_len ≤ length out.old }
         ensures same_reference { result.out.ghost_name ≡ out.entry.ghost_name }
         ensures size { size result ≡ length out.old }
+        ensures untouched { buffer result ≡ out.old }
+        ensures keeps { KeepsRest out.old result }
         ensures counts { MayAsk result.counts }
         ensures holds { Holds result (begun head) }
     {
@@ -89,14 +92,16 @@ impl<'b> ReplyWriter<'b> {
         }
     }
 
-    /// Appends the question, of class IN.
+    /// Appends the question, of class IN. The bytes behind it stay.
     ///
     /// # Errors
-    /// `NoRoom` exactly where the question doesn't fit. Nothing is then appended.
+    /// `NoRoom` exactly where the question doesn't fit. The writer and its whole buffer are then as before.
     pub fn question(&mut self, name: &Name, qtype: u16) -> Result<(), NoRoom>
         requires { MayAsk self.old.counts }
         ensures same_reference { self.new.out.ghost_name ≡ self.old.out.ghost_name }
         ensures size { size self.new ≡ size self.old }
+        ensures refused { OnErr result (self.new ≡ self.old) }
+        ensures keeps { (before : List ℕ) → KeepsRest before self.old → KeepsRest before self.new }
         ensures counts { Counted result self.old.counts self.new.counts (record self.old.counts { questions = 1 }) }
         ensures accepts { (reply : Reply) → Holds self.old reply →
             Accepts self.new result reply (with_question reply (record { name = name.now; qtype = qtype; qclass = IN })) }
@@ -110,10 +115,12 @@ impl<'b> ReplyWriter<'b> {
         Ok(())
     }
 
-    /// Appends a row, of class IN, to a section. Its data are in the wire form of their type, without pointers.
+    /// Appends a row, of class IN, to a section. Its data are in the wire form of their type, without pointers. The bytes
+    /// behind it stay.
     ///
     /// # Errors
-    /// `NoRoom` exactly where the row doesn't fit. Nothing is then appended, and a smaller row may still fit.
+    /// `NoRoom` exactly where the row doesn't fit. The writer and its whole buffer are then as before, and a smaller row may
+    /// still fit.
     pub fn row(
         &mut self,
         section: Section,
@@ -127,6 +134,8 @@ impl<'b> ReplyWriter<'b> {
         requires len { length rdata.now < 2 ^ 16 }
         ensures same_reference { self.new.out.ghost_name ≡ self.old.out.ghost_name }
         ensures size { size self.new ≡ size self.old }
+        ensures refused { OnErr result (self.new ≡ self.old) }
+        ensures keeps { (before : List ℕ) → KeepsRest before self.old → KeepsRest before self.new }
         ensures counts { Counted result self.old.counts self.new.counts (one_more self.old.counts section) }
         ensures accepts { (reply : Reply) → Holds self.old reply →
             Accepts self.new result reply (with_row reply section (record { name = owner.now; rtype = rtype; rclass = IN; ttl = ttl; rdata = rdata.now })) }
@@ -140,13 +149,14 @@ impl<'b> ReplyWriter<'b> {
         Ok(())
     }
 
-    /// Writes the header, and answers how many bytes the reply takes. The bytes behind them stay.
+    /// Writes the header, and answers how many bytes the reply takes. The bytes behind these are those of the buffer in
+    /// which the reply was begun.
     pub fn finish(self) -> usize
-        requires { 12 ≤ size self }
+        requires { header_len ≤ size self }
         ensures reads { (reply : Reply) → Holds self.entry reply → IsReply (take result self.exit.0.now) reply × (result ≡ length (bytes_of reply)) }
         ensures bytes { (reply : Reply) → Holds self.entry reply → take result self.exit.0.now ≡ bytes_of reply }
         ensures within { (reply : Reply) → Holds self.entry reply → result ≤ size self.entry }
-        ensures rest { (reply : Reply) → Holds self.entry reply → drop result self.exit.0.now ≡ drop result self.entry.out.now }
+        ensures rest { (before : List ℕ) → KeepsRest before self.entry → drop result self.exit.0.now ≡ drop result before }
     {
         let ReplyWriter {
             out,

@@ -7,7 +7,7 @@ use Rattle.dn_property.specs.declared.rules.ZoneRules.{ZoneRules}
 use Rattle.dn_stamp.specs.declared.stamp.ReplicaId.{ReplicaId}
 use Rattle.dn_store.specs.declared.unit.Unit as units
 use Rattle.dn_store.specs.declared.unit.UnitKey.{UnitKey}
-use Rattle.dn_store.specs.Table.{KeysGrow, is_above, taken}
+use Rattle.dn_store.specs.Table.{KeysGrow, is_above, units_after}
 use Rattle.dn_store.proofs.CallerLemmas.{AreThere, Here, ahead, ahead_taken, all_filter, all_here, all_map, all_take}
 use Rattle.dn_pass.specs.Pass.{is_last_step, is_swept, last_key, looked_at, sweep, swept}
 use Rattle.dn_pass.proofs.LastKeyLemmas.{ahead_is}
@@ -21,12 +21,12 @@ sweep_there rules ticks id after most list =
     (all_filter (Here list) (is_swept rules ticks) (take most above) (all_take (Here list) most above (all_filter (Here list) (is_above after) list (all_here list))))
 
 pub step_falls : (rules : ZoneRules) (ticks : ℕ) (id : ReplicaId) (after : Option UnitKey) (most : ℕ) (list : List units.Unit) (top : ℕ) → KeysGrow list
-    → is_last_step after most list ≡ false → let looked = looked_at after most list in ahead (last_key after looked) (taken list top (sweep rules ticks id looked)) + most ≤ ahead after list
+    → is_last_step after most list ≡ false → let looked = looked_at after most list in ahead (last_key after looked) (units_after list top (sweep rules ticks id looked)) + most ≤ ahead after list
 unfolding is_last_step
 step_falls rules ticks id after most list top grow more =
     let looked : List units.Unit = looked_at after most list in
     let above : List units.Unit = filter (is_above after) list in
-    let same : ahead (last_key after looked) (taken list top (sweep rules ticks id looked)) ≡ ahead (last_key after looked) list =
+    let same : ahead (last_key after looked) (units_after list top (sweep rules ticks id looked)) ≡ ahead (last_key after looked) list =
     ahead_taken (last_key after looked) list top (sweep rules ticks id looked) grow (sweep_there rules ticks id after most list) in
     let before : most < length above = leb-false (length above) most more in
     let left : ahead (last_key after looked) list ≡ length (drop most above) = ap length (ahead_is after most list grow) in

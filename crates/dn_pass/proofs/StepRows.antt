@@ -16,7 +16,7 @@ use Rattle.dn_store.specs.declared.unit.UnitValue.{UnitValue}
 use Rattle.dn_store.specs.declared.unit.UnitValue.TheVariants.{Props, Live, Tombstone, Gone}
 use Rattle.dn_store.specs.declared.unit.Write.{Write}
 use Rattle.dn_store.specs.Contents.{node_value, rows_at, rows_in, rows_of_unit}
-use Rattle.dn_store.specs.Table.{KeysGrow, is_above, taken}
+use Rattle.dn_store.specs.Table.{KeysGrow, is_above, units_after}
 use Rattle.dn_store.specs.Value.{key_order}
 use Rattle.dn_store.proofs.CallerLemmas.{Brings, IsFoundBy, all_filter, all_map, all_of, all_take, all_then, found_all, is_written, key_total, rows_taken}
 use Rattle.dn_pass.specs.Aging.{TakesStaleAlone, has_stale}
@@ -108,7 +108,7 @@ sweep_brings rules ticks id key list looked all =
     (all_then (IsFoundBy key list) (λ unit. BringsFresh (swept rules ticks id unit)) some (brings_fresh rules ticks id key list) (all_filter (IsFoundBy key list) (is_swept rules ticks) looked all))
 
 pub rows_swept : (rules : ZoneRules) (ticks : ℕ) (id : ReplicaId) (after : Option UnitKey) (most top : ℕ) (list : List units.Unit) → KeysGrow list
-    → TakesStaleAlone rules ticks list (taken list top (sweep rules ticks id (looked_at after most list)))
+    → TakesStaleAlone rules ticks list (units_after list top (sweep rules ticks id (looked_at after most list)))
 unfolding looked_at
 rows_swept rules ticks id after most top list grow key =
     let above : List units.Unit = filter (is_above after) list in

@@ -45,6 +45,6 @@ pub record Lends (bytes : List ℕ) (view : RecordView) (item : Record) : Type 0
   pub stored_is : view.stored.now ≡ is.stored
 
 -- the view is that of the record that the bytes are; where they are none it says what is wrong first
-abbrev pub Views : List ℕ → Result RecordView RecordError → Type 0
-Views bytes (Ok view) = (item : Record) × Lends bytes view item
-Views bytes (Err error) = IsFaulty bytes error
+abbrev pub ReadsView : List ℕ → Result RecordView RecordError → Type 0
+ReadsView bytes (Ok view) = (item : Record) × Lends bytes view item
+ReadsView bytes (Err error) = IsFaulty bytes error

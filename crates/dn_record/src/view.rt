@@ -1,5 +1,5 @@
 ghost use Rattle.std.specs.Prelude.{◌≡◌};
-ghost use Rattle.dn_record.specs.Reads.{Views};
+ghost use Rattle.dn_record.specs.Reads.{ReadsView};
 
 use crate::error::{RecordError, RecordFault};
 use crate::header::read_header;
@@ -28,7 +28,7 @@ impl<'a> RecordView<'a> {
     /// Where the bytes are none, with the kind and the place of what is wrong first; [`read_record`](crate::read_record)
     /// refuses the same bytes for the same.
     pub fn read(bytes: &'a [u8]) -> Result<RecordView<'a>, RecordError>
-        ensures exact { Views bytes.now result }
+        ensures exact { ReadsView bytes.now result }
     {
         let view = read_header(bytes)?;
         match parts_of_stored(view.rtype, view.stored) {

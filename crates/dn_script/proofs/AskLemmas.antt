@@ -9,13 +9,13 @@ use Rattle.dn_message.specs.Kind.{kind_of}
 use Rattle.dn_message.specs.Query.{IsQuery}
 use Rattle.dn_message.specs.Reply.{IsReply}
 use Rattle.dn_answer.specs.declared.reply.AnswerValue.{AnswerValue}
+use Rattle.dn_answer.specs.Datagram.{reply_among, wants_more}
 use Rattle.dn_answer.specs.Told.{value_of}
+use Rattle.dn_answer.proofs.CallerLemmas.{Says, told_to}
 use Rattle.dn_word.specs.Print.{as_line}
-use Rattle.dn_world.specs.declared.world.World.{World}
-use Rattle.dn_world.specs.Ask.{reply_at, world_reply}
-use Rattle.dn_world.specs.Datagram.{IsReadRightly, reply_to, wants_more}
-use Rattle.dn_world.specs.World.{zone_for}
-use Rattle.dn_world.proofs.CallerLemmas.{Says, told_to}
+use Rattle.dn_world.specs.State.{WorldState}
+use Rattle.dn_world.specs.Ask.{world_reply}
+use Rattle.dn_world.specs.Datagram.{IsReadRightly, received_at, reply_to, zones_at}
 use Rattle.dn_script.specs.declared.line.ScriptLine.TheVariants as lines
 use Rattle.dn_script.specs.declared.script.Script.{Script}
 use Rattle.dn_script.specs.Asking.{question_of}
@@ -35,28 +35,26 @@ there_is list at within =
 -- ---- questions
 
 -- a replica has a reply to each question
-reply_there : (world : World) (at : ℕ) (name : Labels) (qtype : ℕ) → at < length world.replicas → (value : AnswerValue) × (world_reply world at name qtype ≡ Some value)
-unfolding world_reply
-reply_there world at name qtype within =
-    let one = there_is world.replicas at within in
-    (reply_at (zone_for world one.0.id name) name qtype, rw one.1 refl)
+reply_there : (world : WorldState) (at : ℕ) (name : Labels) (qtype : ℕ) → at < length world.replicas → world_reply world at name qtype ≡ Some (reply_among (zones_at world at) name qtype)
+unfolding world_reply zones_at
+reply_there world at name qtype within = rw (there_is world.replicas at within).1 refl
 
-module _ (world : World) (at : ℕ) (within : at < length world.replicas) (name : Labels) (qtype : ℕ) (request reply : List ℕ) (kind : kind_of request ≡ kinds.Query)
+module _ (world : WorldState) (at : ℕ) (within : at < length world.replicas) (name : Labels) (qtype : ℕ) (request reply : List ℕ) (kind : kind_of request ≡ kinds.Query)
     (is : IsQuery request (question_of name qtype)) (read : IsReadRightly world at request reply) where
-  says : Says reply (reply_there world at name qtype within).0
-  says = told_to world at request reply (question_of name qtype) kind is refl refl read (reply_there world at name qtype within).0 (reply_there world at name qtype within).1
+  says : Says reply (reply_among (zones_at world at) name qtype)
+  says = told_to (zones_at world at) request reply (question_of name qtype) kind is refl refl read
 
   -- the bytes are read as a reply that says something
   pub value_there : (reading : Reply) × (value : AnswerValue) × IsReply reply reading × (value_of reading ≡ Some value)
-  value_there = (says.read, (reply_there world at name qtype within).0, says.is, says.value_is)
+  value_there = (says.read, reply_among (zones_at world at) name qtype, says.is, says.value_is)
 
   -- and what they say is the replica's reply
   pub value_is : (value : AnswerValue) → ((reading : Reply) → IsReply reply reading → value_of reading ≡ Some value) → world_reply world at name qtype ≡ Some value
-  value_is value gives = (reply_there world at name qtype within).1 ∙ sym says.value_is ∙ gives says.read says.is
+  value_is value gives = reply_there world at name qtype within ∙ sym says.value_is ∙ gives says.read says.is
 
 module _ (script : Script) (replica : List ℕ) (at : ℕ) (number : replica_number script replica ≡ Some at) where
   -- the script behind a line that changes nothing in it
-  same_script : (now : World) → now ≡ script.world → (text told : List ℕ) → text ≡ told
+  same_script : (now : WorldState) → now ≡ script.world → (text told : List ℕ) → text ≡ told
       → ◌≡◌ {A = Step} (Some (script, told)) (Some (record { names = script.names; world = now; moment = script.moment }, text))
   same_script now stays text told is = λ i. Some (record { names = script.names; world = sym stays i; moment = script.moment }, sym is i)
 
@@ -64,7 +62,7 @@ module _ (script : Script) (replica : List ℕ) (at : ℕ) (number : replica_num
   unfolding world_reply
   ask_missing name qtype past = ask_line script replica name qtype ∙ rw (number, slice_get_past script.world.replicas at past) refl
 
-  pub ask_done : (name : Labels) (qtype : ℕ) (value : AnswerValue) → world_reply script.world at name qtype ≡ Some value → (now : World) → now ≡ script.world
+  pub ask_done : (name : Labels) (qtype : ℕ) (value : AnswerValue) → world_reply script.world at name qtype ≡ Some value → (now : WorldState) → now ≡ script.world
       → (text : List ℕ) → text ≡ reply_text value
       → run_line script (lines.Ask replica name qtype) ≡ Some (record { names = script.names; world = now; moment = script.moment }, text)
   ask_done name qtype value replies now stays text is =
@@ -75,10 +73,10 @@ module _ (script : Script) (replica : List ℕ) (at : ℕ) (number : replica_num
   pub udp_missing : (bytes : List ℕ) → length script.world.replicas ≤ at → run_line script (lines.Udp replica bytes) ≡ None
   udp_missing bytes past = udp_line script replica bytes ∙ rw (number, slice_get_past script.world.replicas at past) refl
 
-  pub udp_wanting : (bytes : List ℕ) → at < length script.world.replicas → wants_more script.world at bytes ≡ true → run_line script (lines.Udp replica bytes) ≡ None
+  pub udp_wanting : (bytes : List ℕ) → at < length script.world.replicas → wants_more (received_at script.world at bytes) ≡ true → run_line script (lines.Udp replica bytes) ≡ None
   udp_wanting bytes within wants = udp_line script replica bytes ∙ rw (number, (there_is script.world.replicas at within).1, wants) refl
 
-  pub udp_done : (bytes : List ℕ) → at < length script.world.replicas → wants_more script.world at bytes ≡ false → (now : World) → now ≡ script.world
+  pub udp_done : (bytes : List ℕ) → at < length script.world.replicas → wants_more (received_at script.world at bytes) ≡ false → (now : WorldState) → now ≡ script.world
       → (reply text : List ℕ) → reply ≡ reply_to script.world at bytes → text ≡ as_line (datagram_text reply)
       → run_line script (lines.Udp replica bytes) ≡ Some (record { names = script.names; world = now; moment = script.moment }, text)
   udp_done bytes within done now stays reply text replies is =

@@ -1,14 +1,9 @@
 pub mod AskLemmas
 pub mod LineLemmas
-pub mod LineTurns
 pub mod NameLemmas
-pub mod OnceLemmas
 pub mod PassRuns
 pub mod PlayRuns
 pub mod PlaySaid
 pub mod ProperLines
-pub mod ShowLemmas
-pub mod SinkLemmas
 pub mod StepLemmas
-pub mod ValuesBack
 pub mod WholePassLemmas

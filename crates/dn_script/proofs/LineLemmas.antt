@@ -3,21 +3,22 @@ use Rattle.std.proofs.Common.{◌≡◌, ℕ, if◌then◌else◌, List, [], ◌
 use Rattle.std.specs.Prelude.{slice_get}
 use Rattle.dn_io.specs.Options.{◌>>=◌}
 use Rattle.dn_name.specs.Name.{Labels}
+use Rattle.dn_answer.specs.Datagram.{wants_more}
 use Rattle.dn_word.specs.Print.{as_line}
 use Rattle.dn_world.specs.declared.event.WorldAnswer.{WorldAnswer}
 use Rattle.dn_world.specs.declared.event.WorldAnswer.TheVariants.{Made}
 use Rattle.dn_world.specs.declared.event.WorldEvent.TheVariants.{Deliver}
-use Rattle.dn_world.specs.declared.world.World.{World}
+use Rattle.dn_world.specs.State.{WorldState}
 use Rattle.dn_world.specs.Ask.{world_reply}
-use Rattle.dn_world.specs.Datagram.{reply_to, wants_more}
+use Rattle.dn_world.specs.Datagram.{received_at, reply_to}
 use Rattle.dn_world.specs.Runs.{run_from}
-use Rattle.dn_script.specs.declared.bad.Bad.{Bad}
-use Rattle.dn_script.specs.declared.bad.Bad.TheVariants as bad
+use Rattle.dn_lines.specs.declared.bad.Bad.{Bad}
+use Rattle.dn_lines.specs.declared.bad.Bad.TheVariants as bad
 use Rattle.dn_script.specs.declared.line.ScriptLine.TheVariants as lines
 use Rattle.dn_script.specs.declared.script.Script.{Script}
 use Rattle.dn_script.specs.Passes.{pass_events, whole_pass}
 use Rattle.dn_script.specs.Play.{Step, after_event, besides, events_of, output_of, replica_number, run_events, run_line}
-use Rattle.dn_script.specs.Play.Stepped.{Gives, Steps}
+use Rattle.dn_script.specs.Play.Stepped.{GivesOrLacks, Steps}
 use Rattle.dn_script.specs.Print.{datagram_text}
 use Rattle.dn_script.specs.PrintReply.{reply_text}
 use Rattle.dn_script.proofs.PassRuns.{whole_pass_runs}
@@ -36,14 +37,14 @@ pass_line script replica apex at is =
     (the_same (after_event script (run_from (script.world, Made) (pass_events script.world at apex script.moment)))
     ∙ ap (after_event script) (sym (whole_pass_runs script.world at apex script.moment Made)))
 
-told : (result : Result (List ℕ) Bad) (script : Script) (after : World × WorldAnswer) → Gives result (output_of after.1) → Steps result (record script { world = after.0 }) (after_event script after)
+told : (result : Result (List ℕ) Bad) (script : Script) (after : WorldState × WorldAnswer) → GivesOrLacks result (output_of after.1) → Steps result (record script { world = after.0 }) (after_event script after)
 told (Ok output) script after gives = rw gives refl
 told (Err bad.Line) script after gives = rw gives refl
 told (Err bad.Memory) script after gives = tt
 
 -- a pass that was run and whose answer was told
-pub pass_steps : (script : Script) (replica : List ℕ) (apex : Labels) (at : ℕ) (after : World × WorldAnswer) (result : Result (List ℕ) Bad) → replica_number script replica ≡ Some at
-    → whole_pass script.world at apex script.moment ≡ after → Gives result (output_of after.1)
+pub pass_steps : (script : Script) (replica : List ℕ) (apex : Labels) (at : ℕ) (after : WorldState × WorldAnswer) (result : Result (List ℕ) Bad) → replica_number script replica ≡ Some at
+    → whole_pass script.world at apex script.moment ≡ after → GivesOrLacks result (output_of after.1)
     → Steps result (record script { world = after.0 }) (run_line script (lines.Pass replica apex))
 pass_steps script replica apex at after result its_number ran gives =
     subst (Steps result (record script { world = after.0 })) (sym (pass_line script replica apex at its_number ∙ ap (after_event script) ran)) (told result script after gives)
@@ -77,6 +78,6 @@ ask_line script replica name qtype = refl
 pub udp_line : (script : Script) (replica bytes : List ℕ)
     → run_line script (lines.Udp replica bytes)
     ≡ (replica_number script replica >>= λ at. slice_get script.world.replicas at >>= λ there.
-    if wants_more script.world at bytes then None else Some (script, as_line (datagram_text (reply_to script.world at bytes))))
+    if wants_more (received_at script.world at bytes) then None else Some (script, as_line (datagram_text (reply_to script.world at bytes))))
 unfolding run_line events_of run_events besides output_of
 udp_line script replica bytes = refl

@@ -3,30 +3,31 @@ use Rattle.std.proofs.Common.{◌≡◌, ℕ, ◌+◌, Bool, true, false, cond, 
 use Rattle.std.specs.Prelude.{OnOk, slice_get}
 use Rattle.dn_io.specs.Lines.{RawLine, is_overlong, lines_of, size_of, text_of}
 use Rattle.dn_io.specs.Options.{◌>>=◌}
+use Rattle.dn_answer.specs.Datagram.{wants_more}
 use Rattle.dn_word.specs.Words.{words_of}
 use Rattle.dn_word.proofs.CallerLemmas.{bound, chosen, given_is}
 use Rattle.dn_world.specs.declared.event.WorldAnswer.{WorldAnswer}
 use Rattle.dn_world.specs.declared.event.WorldAnswer.TheVariants.{Made}
 use Rattle.dn_world.specs.declared.event.WorldEvent.{WorldEvent}
-use Rattle.dn_world.specs.declared.world.World.{World}
+use Rattle.dn_world.specs.State.{WorldState}
 use Rattle.dn_world.specs.Ask.{world_reply}
-use Rattle.dn_world.specs.Datagram.{reply_to, wants_more}
+use Rattle.dn_world.specs.Datagram.{received_at, reply_to}
 use Rattle.dn_world.specs.Runs.{AreProper, IsValidWorld, run_from, wrun}
 use Rattle.dn_world.proofs.CallerLemmas.{run_keeps, run_then, run_valid, run_world}
-use Rattle.dn_script.specs.declared.bad.Bad.{Bad}
+use Rattle.dn_lines.specs.declared.bad.Bad.{Bad}
 use Rattle.dn_script.specs.declared.line.ScriptLine.{ScriptLine}
 use Rattle.dn_script.specs.declared.line.ScriptLine.TheVariants as lines
 use Rattle.dn_script.specs.declared.script.Script.{Script}
 use Rattle.dn_script.specs.Line.{line_of}
 use Rattle.dn_script.specs.Play.{Played, Step, after_event, after_step, at_moment, besides, events_of, events_or_none, line_events, opening, output_of, play, play_lines, replica_number, replied, run_events, run_line, sent_back, step_text, text_events, with_name}
 use Rattle.dn_script.specs.Play.Stepped.{Steps}
-use Rattle.dn_script.specs.Words.{does_nothing}
+use Rattle.dn_lines.specs.Words.{does_nothing}
 use Rattle.dn_script.proofs.ProperLines.{text_proper}
 
 -- ---- one line
 
 -- the world of what is given is this one
-abbrev pub InWorld : World → Script × List ℕ → Type 0
+abbrev pub InWorld : WorldState → Script × List ℕ → Type 0
 InWorld world after = after.0.world ≡ world
 
 besides_same : (line : ScriptLine) (now after : Script × List ℕ) → besides line now ≡ Some after → InWorld now.0.world after
@@ -46,14 +47,14 @@ besides_same (lines.Ask replica name qtype) now after is =
 besides_same (lines.Udp replica bytes) now after is =
     bound (InWorld now.0.world) (replica_number now.0 replica) _
     (λ at there. bound (InWorld now.0.world) (slice_get now.0.world.replicas at) _
-    (λ found known. chosen (InWorld now.0.world) (wants_more now.0.world at bytes) None _ (λ one none. absurd (cc))
+    (λ found known. chosen (InWorld now.0.world) (wants_more (received_at now.0.world at bytes)) None _ (λ one none. absurd (cc))
     (λ one replies. given_is (InWorld now.0.world) (sent_back now (reply_to now.0.world at bytes)) one refl replies))) after is
 
 ran_same : (script : Script) (line : ScriptLine) (list : List WorldEvent) (after : Script × List ℕ) → (run_events script list >>= besides line) ≡ Some after
     → InWorld (run_from (script.world, Made) list).0 after
 unfolding run_events
 ran_same script line list after is =
-    let world : World = (run_from (script.world, Made) list).0 in
+    let world : WorldState = (run_from (script.world, Made) list).0 in
     bound (InWorld world) (after_event script (run_from (script.world, Made) list)) (besides line)
     (λ now ran one given.
     besides_same line now one given
@@ -111,12 +112,12 @@ step_runs : (number : ℕ) (script : Script) (events : List WorldEvent) (step : 
     → Runs script (after_step number script events step go_on)
 step_runs number script events None go_on runs rest = refl
 step_runs number script events (Some (now, output)) go_on runs rest =
-    let mid : World × WorldAnswer = run_from (script.world, Made) events in
+    let mid : WorldState × WorldAnswer = run_from (script.world, Made) events in
     let later : List WorldEvent = (go_on now).events in
     rest now
-    ∙ ap (λ (world : World). (run_from (world, Made) later).0) (runs (now, output) refl)
+    ∙ ap (λ (world : WorldState). (run_from (world, Made) later).0) (runs (now, output) refl)
     ∙ run_world mid.0 Made mid.1 later
-    ∙ sym (ap (λ (after : World × WorldAnswer). after.0) (run_then (script.world, Made) events later))
+    ∙ sym (ap (λ (after : WorldState × WorldAnswer). after.0) (run_then (script.world, Made) events later))
 
 long_runs : (long : Bool) (script : Script) (one other : Played) → Runs script one → Runs script other → Runs script (cond long one other)
 long_runs true script one other first second = first

@@ -4,12 +4,13 @@ use Rattle.std.specs.Io.KnownBytes.{Appends}
 use Rattle.dn_io.specs.declared.status.Status.{Status}
 use Rattle.dn_io.specs.declared.status.Status.TheVariants.{Done, BadLine, Usage, ReadFault, WriteFault, OutOfMemory, TooLong, LinkFault}
 use Rattle.dn_io.specs.Lines.{RawLine, lines_of, size_of}
-use Rattle.dn_io.specs.Outside.{AppendsFront, Told}
+use Rattle.dn_io.specs.Outside.{AppendsFront, WhereTold}
 use Rattle.dn_script.specs.declared.script.Script.{Script}
-use Rattle.dn_script.specs.Play.{AtEnd, Bad, Ended, Ending, Long, opening, play, play_lines}
+use Rattle.dn_script.specs.Play.{Ended, opening, play, play_lines}
+use Rattle.dn_lines.specs.Said.{AtEnd, Bad, Ending, Long}
 use Rattle.dn_script.specs.Play.Stepped.{Replays}
-use Rattle.dn_script.specs.Said.{EndedFrom, IsFrontWritten, IsSaid, IsWritten}
-use Rattle.dn_script.proofs.SinkLemmas.{front-more, told_map}
+use Rattle.dn_lines.specs.Said.{EndedFrom, IsFrontWritten, IsSaid, IsWritten}
+use Rattle.dn_lines.proofs.CallerLemmas.{front-more, told_map}
 
 -- what lines give is the text of their play, which ends so
 said_play : (lines : List RawLine) (script : Script) (number at : ℕ) (text : List ℕ) (ending : Ending) → IsSaid Replays script number at lines text ending
@@ -59,8 +60,8 @@ module _ (lines : List RawLine) (script : Script) (number at : ℕ) (before now 
 
 -- a run over a whole script is its play
 pub replay_ended : (s0 s1 w0 w1 : Option (List ℕ)) (script : Script) (status : Status) → script ≡ opening
-    → Told s0 s1 (λ before now. EndedFrom Replays script 1 0 (lines_of before) status now w0 w1)
-    → Told s0 s1 (λ before now. Ended (play before) status now w0 w1)
+    → WhereTold s0 s1 (λ before now. EndedFrom Replays script 1 0 (lines_of before) status now w0 w1)
+    → WhereTold s0 s1 (λ before now. Ended (play before) status now w0 w1)
 unfolding play
 replay_ended s0 s1 w0 w1 script status start read =
     told_map s0 s1 (λ before now. EndedFrom Replays script 1 0 (lines_of before) status now w0 w1) (λ before now. Ended (play before) status now w0 w1)

@@ -22,7 +22,7 @@ use Rattle.dn_script.specs.declared.line.ScriptLine.TheVariants as lines
 use Rattle.dn_script.specs.declared.script.Script.{Script}
 use Rattle.dn_script.specs.Line.{admin_line, ask_line, at_line, create_line, deliver_line, event_line, join_line, line_of, pass_line, pull_line, replica_line, udp_line, zone_line}
 use Rattle.dn_script.specs.Play.{events_of, events_or_none, is_new_name, line_events, replica_number, text_events}
-use Rattle.dn_script.specs.Words.{does_nothing}
+use Rattle.dn_lines.specs.Words.{does_nothing}
 use Rattle.dn_script.proofs.PassRuns.{pass_proper}
 
 abbrev pub IsProperLine : ScriptLine → Type 0
@@ -157,18 +157,18 @@ proper_line (verb ∷ words) =
 
 -- ---- events
 
-abbrev Given : Option (List WorldEvent) → Type 0
-Given found = AreProper (events_or_none found)
+abbrev AreProperOrNone : Option (List WorldEvent) → Type 0
+AreProperOrNone found = AreProper (events_or_none found)
 
-found_proper : (found : Option ℕ) (go_on : ℕ → Option (List WorldEvent)) → ((at : ℕ) → Given (go_on at)) → Given (found >>= go_on)
+found_proper : (found : Option ℕ) (go_on : ℕ → Option (List WorldEvent)) → ((at : ℕ) → AreProperOrNone (go_on at)) → AreProperOrNone (found >>= go_on)
 found_proper None go_on proper = tt
 found_proper (Some at) go_on proper = proper at
 
-new_proper : (fresh : Bool) (events : List WorldEvent) → AreProper events → Given (if fresh then Some events else None)
+new_proper : (fresh : Bool) (events : List WorldEvent) → AreProper events → AreProperOrNone (if fresh then Some events else None)
 new_proper true events proper = proper
 new_proper false events proper = tt
 
-line_proper : (script : Script) (line : ScriptLine) → IsProperLine line → Given (events_of script line)
+line_proper : (script : Script) (line : ScriptLine) → IsProperLine line → AreProperOrNone (events_of script line)
 unfolding events_of
 line_proper script (lines.Replica name id host) proper = new_proper (is_new_name script name) (Replica id host ∷ []) (proper, tt)
 line_proper script (lines.Create replica apex mailbox) proper = found_proper (replica_number script replica) _ (λ at. (proper, tt))

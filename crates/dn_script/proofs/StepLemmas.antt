@@ -2,10 +2,10 @@
 use Rattle.std.proofs.Common.{◌≡◌, ℕ, zero, suc, ◌-◌, ◌+◌, ◌<◌, ◌≤◌, true, false, refl, sym, ap, arith, ◌∙◌}
 use Rattle.dn_name.specs.Name.{Labels}
 use Rattle.dn_world.specs.declared.event.WorldAnswer.{WorldAnswer}
-use Rattle.dn_world.specs.declared.world.World.{World}
+use Rattle.dn_world.specs.State.{WorldState}
 use Rattle.dn_script.specs.Passes.{is_moved, step_at, steps_from, while_moved}
 
-more : (left : ℕ) (world : World) (at : ℕ) (apex : Labels) → zero < left
+more : (left : ℕ) (world : WorldState) (at : ℕ) (apex : Labels) → zero < left
     → steps_from left world at apex ≡ while_moved (step_at world at apex) (λ now. steps_from (left - 1) now at apex)
 unfolding steps_from
 more zero world at apex some = absurd (omega arith)
@@ -14,14 +14,14 @@ more (suc left) world at apex some =
     ap (λ (rest : ℕ). while_moved (step_at world at apex) (λ now. steps_from rest now at apex)) e
 
 -- an answer that isn't `moved` ends the pass
-pub ends : (most turn : ℕ) (before after : World) (at : ℕ) (apex : Labels) (answer : WorldAnswer) (whole : World × WorldAnswer) → turn < most
+pub ends : (most turn : ℕ) (before after : WorldState) (at : ℕ) (apex : Labels) (answer : WorldAnswer) (whole : WorldState × WorldAnswer) → turn < most
     → step_at before at apex ≡ (after, answer) → false ≡ is_moved answer → steps_from (most - turn) before at apex ≡ whole → whole ≡ (after, answer)
 ends most turn before after at apex answer whole less is over so_far =
     let some : zero < most - turn = omega arith in
     sym so_far ∙ more (most - turn) before at apex some ∙ (rw (is, ← over) refl)
 
 -- and after another the rest ends it
-pub goes_on : (most turn : ℕ) (before after : World) (at : ℕ) (apex : Labels) (answer : WorldAnswer) (whole : World × WorldAnswer) → turn < most
+pub goes_on : (most turn : ℕ) (before after : WorldState) (at : ℕ) (apex : Labels) (answer : WorldAnswer) (whole : WorldState × WorldAnswer) → turn < most
     → step_at before at apex ≡ (after, answer) → true ≡ is_moved answer → steps_from (most - turn) before at apex ≡ whole
     → steps_from (most - (turn + 1)) after at apex ≡ whole
 goes_on most turn before after at apex answer whole less is moved so_far =
@@ -30,7 +30,7 @@ goes_on most turn before after at apex answer whole less is moved so_far =
     rw e (sym (more (most - turn) before at apex some ∙ (rw (is, ← moved) refl)) ∙ so_far)
 
 -- the last step ends it in any case
-pub last : (most turn : ℕ) (before : World) (at : ℕ) (apex : Labels) (whole : World × WorldAnswer) → most ≤ turn
+pub last : (most turn : ℕ) (before : WorldState) (at : ℕ) (apex : Labels) (whole : WorldState × WorldAnswer) → most ≤ turn
     → steps_from (most - turn) before at apex ≡ whole → whole ≡ step_at before at apex
 unfolding steps_from
 last most turn before at apex whole all so_far =

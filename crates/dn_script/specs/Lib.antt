@@ -1,12 +1,7 @@
 pub mod Asking
 pub mod Laws
 pub mod Line
-pub mod LineOutput
 pub mod Passes
 pub mod Play
 pub mod Print
 pub mod PrintReply
-pub mod Said
-pub mod ValueLaws
-pub mod Values
-pub mod Words

@@ -11,19 +11,21 @@ use Rattle.dn_io.specs.Moments.{first_moment}
 use Rattle.dn_io.specs.Options.{◌>>=◌}
 use Rattle.dn_io.specs.Outside.{AppendsFront}
 use Rattle.dn_answer.specs.declared.reply.AnswerValue.{AnswerValue}
+use Rattle.dn_answer.specs.Datagram.{wants_more}
 use Rattle.dn_zone.specs.declared.event.Event.TheVariants.{Admin}
 use Rattle.dn_world.specs.declared.event.WorldAnswer.{WorldAnswer}
 use Rattle.dn_world.specs.declared.event.WorldAnswer.TheVariants as world
 use Rattle.dn_world.specs.declared.event.WorldEvent.{WorldEvent}
 use Rattle.dn_world.specs.declared.event.WorldEvent.TheVariants.{Act, Create, Deliver, Join, Pull, Replica}
-use Rattle.dn_world.specs.declared.world.World.{World}
+use Rattle.dn_world.specs.State.{WorldState}
 use Rattle.dn_world.specs.Ask.{world_reply}
-use Rattle.dn_world.specs.Datagram.{reply_to, wants_more}
+use Rattle.dn_world.specs.Datagram.{received_at, reply_to}
 use Rattle.dn_world.specs.Runs.{run_from}
 use Rattle.dn_world.specs.World.{empty_world}
 use Rattle.dn_word.specs.Print.{as_line}
 use Rattle.dn_word.specs.Words.{words_of}
 use Rattle.dn_admin.specs.Answers.{answer_text}
+use Rattle.dn_lines.specs.Said.{Ending, AtEnd, Bad, Long}
 use Rattle.dn_script.specs.declared.line.ScriptLine.{ScriptLine}
 use Rattle.dn_script.specs.declared.line.ScriptLine.TheVariants as lines
 use Rattle.dn_script.specs.declared.script.Script.{Script}
@@ -31,7 +33,7 @@ use Rattle.dn_script.specs.Line.{line_of}
 use Rattle.dn_script.specs.Passes.{pass_events}
 use Rattle.dn_script.specs.Print.{datagram_text, packet_text}
 use Rattle.dn_script.specs.PrintReply.{reply_text}
-use Rattle.dn_script.specs.Words.{does_nothing}
+use Rattle.dn_lines.specs.Words.{does_nothing}
 
 -- the script before its first line: no replica, and hour 1
 unfoldable pub opening : Script
@@ -56,12 +58,12 @@ output_of (world.Sent packet) = Some (as_line (packet_text packet))
 output_of (world.No why) = None
 
 -- a refused event makes its line invalid
-abbrev pub after_event : Script → World × WorldAnswer → Step
+abbrev pub after_event : Script → WorldState × WorldAnswer → Step
 after_event script after = do
   output ← output_of after.1
   Some (record script { world = after.0 }, output)
 
--- events in turn: the world behind them, and the line of output of the last answer
+-- events in turn: the world of the last entry of their trace, and the line of output of its answer
 unfoldable pub run_events : Script → List WorldEvent → Step
 run_events script events = after_event script (run_from (script.world, world.Made) events)
 
@@ -125,7 +127,7 @@ besides (lines.Ask replica name qtype) after = do
 besides (lines.Udp replica bytes) after = do
   at ← replica_number after.0 replica
   there ← slice_get after.0.world.replicas at
-  if wants_more after.0.world at bytes then None else Some (sent_back after (reply_to after.0.world at bytes))
+  if wants_more (received_at after.0.world at bytes) then None else Some (sent_back after (reply_to after.0.world at bytes))
 
 -- a line runs its events
 unfoldable pub run_line : Script → ScriptLine → Step
@@ -138,12 +140,6 @@ run_line script line = do
 unfoldable pub step_text : Script → List ℕ → Step
 step_text script text =
     if does_nothing text then Some (script, []) else line_of (words_of text) >>= run_line script
-
--- how a script ends: each line was valid, or this line is the first that isn't, or a line is over-long
-pub data Ending : Type 0 where
-  AtEnd : Ending
-  Bad : ℕ → Ending
-  Long : Ending
 
 abbrev pub events_or_none : Option (List WorldEvent) → List WorldEvent
 events_or_none None = []
@@ -161,7 +157,7 @@ text_events script text = if does_nothing text then [] else line_events script (
 pub record Played : Type 0 where
   pub events : List WorldEvent
   pub text : List ℕ
-  pub world : World
+  pub world : WorldState
   pub ending : Ending
 
 abbrev pub ends : Script → Ending → Played

@@ -1,30 +1,24 @@
-//! What holds of the play of every script, and of what lines of stored values give.
+//! What holds of the play of every script.
 
 ghost use Rattle.std.specs.Prelude.{◌≡◌, ℕ, false, List};
 ghost use Rattle.dn_name.specs.Name.{Labels};
 ghost use Rattle.dn_world.specs.declared.event.WorldAnswer.TheVariants.{Made};
 ghost use Rattle.dn_world.specs.declared.event.WorldEvent.{WorldEvent};
 ghost use Rattle.dn_world.specs.Runs.{run_from, wrun};
-ghost use Rattle.dn_script.specs.Laws.{IsOneRun};
+ghost use Rattle.dn_script.specs.Laws.{IsOneRun, PassesAreWhole};
 ghost use Rattle.dn_script.specs.Passes.{is_moved, pass_events};
 ghost use Rattle.dn_script.specs.Play.{play};
-ghost use Rattle.dn_script.specs.Said.{IsSaidOnce};
-ghost use Rattle.dn_script.specs.ValueLaws.{Laws, PackedIsShown, ShownIsPacked};
-ghost use Rattle.dn_script.specs.Values.{IsPacked, IsShown};
 
-use dn_property::{
-    properties_are_in_range, properties_are_spelled_once, properties_have_one_spelling,
-};
-use dn_record::{records_are_in_range, stored_records_are_spelled_once};
 use dn_world::{
     replicas_answer_alike, replies_are_read_rightly, worlds_stay_valid, zones_age_rightly,
 };
 
-/// The law that the play of a script is one run: each of its events is proper, and its lines were answered in the world that
-/// they run to. That world is valid; in it two replicas whose units of a zone are equal by key, stamp and value give the same
-/// reply to each question, save for the primary server and the serial of an SOA; its zones age rightly, whatever events come;
-/// and what a replica replies to the bytes of a datagram is read by the grammar of replies as what it has to say. It stands in
-/// the contract, and nothing is changed.
+/// The law that the play of a script is one run: each of its events is proper, and each line was answered in the world of the
+/// events before it. The last of these worlds is valid; in it two replicas whose units of a zone are equal by key, stamp and
+/// value give the same reply to each question, save for the primary server and the serial of an SOA; and what a replica replies
+/// to the bytes of a datagram is read by the grammar of replies as what it has to say. In the play's trace, and in that of
+/// whatever events come behind it, each event ages the zone that it reaches rightly. It stands in the contract, and nothing is
+/// changed.
 pub fn a_play_is_one_run()
     ensures { (script : List ℕ) → IsOneRun (play script) }
 {
@@ -34,49 +28,10 @@ pub fn a_play_is_one_run()
     replies_are_read_rightly();
 }
 
-/// The law that a whole pass over a zone comes to its end, in the world behind any events: its last answer isn't that it goes
-/// on. It stands in the contract, and nothing runs.
+/// The law of a whole pass over a zone, in the world behind any events: its events are the one list that is its begin and,
+/// where that is answered `begun`, steps of which each but the last is answered `moved`, and the last isn't. So it comes to
+/// its end. It stands in the contract, and nothing runs.
 pub fn whole_passes_end()
-    ensures { (list : List WorldEvent) (at moment : ℕ) (apex : Labels) → is_moved (run_from (wrun list, Made) (pass_events (wrun list) at apex moment)).1 ≡ false }
-{}
-
-// The laws of stored values of the crates below, handed on as one.
-fn values_are_one()
-    ensures { Laws }
-{
-    stored_records_are_spelled_once();
-    dn_record::first_faults_are_one();
-    properties_are_spelled_once();
-    properties_have_one_spelling();
-    dn_property::first_faults_are_one();
-    records_are_in_range();
-    properties_are_in_range();
-}
-
-/// The law that what `show` gives for an input is one text, with one end. It stands in the contract, and nothing runs.
-pub fn shown_texts_are_one()
-    ensures { IsSaidOnce IsShown }
-{
-    values_are_one();
-}
-
-/// The law that what `pack` gives for an input is one text, with one end. It stands in the contract, and nothing runs.
-pub fn packed_texts_are_one()
-    ensures { IsSaidOnce IsPacked }
-{
-    values_are_one();
-}
-
-/// The law that the line which is shown of a value's bytes is packed into the line of these bytes, with its hex digits in lower
-/// case. It stands in the contract, and nothing runs.
-pub fn shown_values_are_packed()
-    ensures { ShownIsPacked }
-{
-    values_are_one();
-}
-
-/// The law that the line of a value's bytes is shown as the printed line of this value. It stands in the contract, and nothing
-/// runs.
-pub fn packed_values_are_shown()
-    ensures { PackedIsShown }
+    ensures whole { (list : List WorldEvent) → PassesAreWhole (wrun list) }
+    ensures last { (list : List WorldEvent) (at moment : ℕ) (apex : Labels) → is_moved (run_from (wrun list, Made) (pass_events (wrun list) at apex moment)).1 ≡ false }
 {}

@@ -1,13 +1,12 @@
 ghost use Rattle.std.specs.Prelude.{◌≡◌, ◌≢◌, ◌≤◌};
-ghost use Rattle.dn_io.specs.Outside.{Rose, Told};
+ghost use Rattle.dn_io.specs.Outside.{Rose, WhereTold};
 ghost use Rattle.dn_world.specs.Runs.{IsValidWorld};
 ghost use Rattle.dn_script.specs.Play.{Ended, play};
 ghost use Rattle.dn_script.specs.Play.Stepped.{Replays};
 
-use crate::bad::Bad;
-use crate::lines_run::{LineCommand, run_lines};
 use crate::script::Script;
 use dn_io::{List, Sink, Source, Status};
+use dn_lines::{Bad, LineCommand, run_lines};
 use std::alloc::Global;
 
 // A replay runs each line in the script so far.
@@ -24,7 +23,7 @@ impl LineCommand for Script {
 /// Replays a script: reads it from the source, line by line, and writes its transcript to the sink.
 pub fn replay<S: Source, K: Sink>(alloc: Global, source: &mut S, sink: &mut K) -> Status
     // Where the source tells, what was written is the transcript of the script that was read, by how it ended.
-    ensures transcript { Told (S.left source.old) (S.left source.new) (λ before now.
+    ensures transcript { WhereTold (S.left source.old) (S.left source.new) (λ before now.
         Ended (play before) result now (K.written sink.old) (K.written sink.new)) }
     ensures read { result ≡ Status.ReadFault → Rose (S.faults source.old) (S.faults source.new) }
     ensures write { result ≡ Status.WriteFault → Rose (K.faults sink.old) (K.faults sink.new) }

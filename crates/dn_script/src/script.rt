@@ -1,18 +1,18 @@
 ghost use Rattle.std.specs.Prelude.{◌≡◌, [], ◌∷◌};
 ghost use Rattle.dn_script.specs.Play.{opening, output_of, replica_number, run_events, run_line, step_text};
 ghost use Rattle.dn_world.specs.Runs.{IsValidWorld};
-ghost use Rattle.dn_script.specs.Play.Stepped.{Gives, GivesOrRefuses, Steps};
+ghost use Rattle.dn_script.specs.Play.Stepped.{GivesOrLacks, GivesOrRefuses, Steps};
 
 use crate::asking::{value_in, write_question};
-use crate::bad::Bad;
 use crate::line::{ScriptLine, line_of};
 use crate::names::Names;
 use crate::passes::whole_pass;
 use crate::print::{datagram_line, packet_line};
 use crate::print_reply::reply_text;
-use crate::words::work_of;
 use dn_admin::answer_line;
+use dn_answer::write_reply;
 use dn_io::{List, Moment};
+use dn_lines::{Bad, work_of};
 use dn_name::Name;
 use dn_stamp::ReplicaId;
 use dn_word::TextError;
@@ -31,7 +31,7 @@ pub struct Script {
 // The line of output of an answer.
 #[tactic(auto, unfolding(crate::specs::Play::output_of))]
 fn output_of(alloc: Global, answer: WorldAnswer) -> Result<List<u8>, Bad>
-    ensures { Gives result (output_of answer) }
+    ensures { GivesOrLacks result (output_of answer) }
 {
     match answer {
         WorldAnswer::Made => Ok(List::new(alloc)),
@@ -186,7 +186,7 @@ impl Script {
         ensures { Steps result self.new (run_line self.old (ScriptLine.Ask replica.now name.now qtype)) }
     {
         let at = self.replica_number(replica)?;
-        if at >= self.world.replicas.len() {
+        if at >= self.world.replicas().len() {
             return Err(Bad::Line);
         }
         let mut request = [0u8; 512];
@@ -208,16 +208,15 @@ impl Script {
         ensures { Steps result self.new (run_line self.old (ScriptLine.Udp replica.now bytes.now)) }
     {
         let at = self.replica_number(replica)?;
-        if at >= self.world.replicas.len() {
+        if at >= self.world.replicas().len() {
             return Err(Bad::Line);
         }
-        if self.world.wants_more(at, bytes) {
+        let received = self.world.received(at, bytes);
+        if received.wants_more() {
             return Err(Bad::Line);
         }
         let mut out = [0u8; 512];
-        let len = self
-            .world
-            .datagram(alloc, at, self.moment, bytes, &mut out)?;
+        let len = write_reply(alloc, &received, bytes, &mut out)?;
         let (reply, _) = out.split_at(len);
         Ok(datagram_line(alloc, reply)?)
     }

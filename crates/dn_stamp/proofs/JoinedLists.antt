@@ -2,7 +2,7 @@
 use Rattle.std.proofs.Common.{List, [], ◌∷◌, ◌≡◌, ◌∙◌, ap, sym}
 use Rattle.std.specs.List.{fold, AllByRecursion, Contains}
 use Rattle.std.proofs.lemmas.List.Elements.{All-contains, All-contains_itself, All-from_recursion, recursion_from_All}
-use Rattle.dn_stamp.specs.Order.{AllAgree, Covers, OrderIsFree}
+use Rattle.dn_stamp.specs.Order.{AllAgree, HasEach, OrderIsFree}
 
 -- the laws of a join
 pub record Laws (J : Type 0) (agree : J → J → Type 0) (joined : J → J → J) : Type 0 where
@@ -95,11 +95,11 @@ has_fold J agree joined laws items agreed x x-made first (y ∷ rest) made all h
     has_fold J agree joined laws items agreed x x-made (joined first y) rest (joined_made J agree joined laws items first y made all.0) all.1 both each.1
 
 -- the items of a list that the first one covers
-covered_made : (J : Type 0) (agree : J → J → Type 0) (items others : List J) → Covers items others → AllByRecursion (Made J agree items) others
+covered_made : (J : Type 0) (agree : J → J → Type 0) (items others : List J) → HasEach items others → AllByRecursion (Made J agree items) others
 covered_made J agree items others covers =
     recursion_from_All (Made J agree items) others (λ k d below. item_made J agree items _ (covers k d below))
 
-covered_has : (J : Type 0) (joined : J → J → J) (items others : List J) → Covers items others → (x : J)
+covered_has : (J : Type 0) (joined : J → J → J) (items others : List J) → HasEach items others → (x : J)
     → AllByRecursion (Has J joined x) items → AllByRecursion (Has J joined x) others
 covered_has J joined items others covers x each =
     recursion_from_All (Has J joined x) others

@@ -2,8 +2,8 @@
 use Rattle.std.specs.Prelude.{List, ◌∷◌, ◌≡◌, fold, All, Contains}
 
 -- each item of the second list is one of the first
-abbrev pub Covers : {J : Type 0} → List J → List J → Type 0
-Covers xs ys = All (Contains xs) ys
+abbrev pub HasEach : {J : Type 0} → List J → List J → Type 0
+HasEach xs ys = All (Contains xs) ys
 
 -- any two items agree
 abbrev pub AllAgree : {J : Type 0} → (J → J → Type 0) → List J → Type 0
@@ -13,5 +13,5 @@ AllAgree agree xs = (left right : _) → Contains xs left → Contains xs right 
 abbrev pub OrderIsFree : {J : Type 0} → (J → J → Type 0) → (J → J → J) → Type 0
 OrderIsFree {J} agree joined =
     (one other : J) (ones others : List J)
-    → AllAgree agree (one ∷ ones) → Covers (one ∷ ones) (other ∷ others) → Covers (other ∷ others) (one ∷ ones)
+    → AllAgree agree (one ∷ ones) → HasEach (one ∷ ones) (other ∷ others) → HasEach (other ∷ others) (one ∷ ones)
     → fold joined one ones ≡ fold joined other others

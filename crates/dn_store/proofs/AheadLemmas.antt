@@ -14,7 +14,7 @@ use Rattle.std.specs.declared.cmp.Ordering.TheVariants.{Equal}
 use Rattle.dn_store.specs.declared.unit.Unit as units
 use Rattle.dn_store.specs.declared.unit.UnitKey.{UnitKey}
 use Rattle.dn_store.specs.declared.unit.Write.{Write}
-use Rattle.dn_store.specs.Table.{KeysGrow, is_above, numbered, placed, taken}
+use Rattle.dn_store.specs.Table.{KeysGrow, is_above, numbered, placed, units_after}
 use Rattle.dn_store.specs.Value.{key_order}
 use Rattle.dn_store.proofs.CountLemmas.{count_cons, ones}
 use Rattle.dn_store.proofs.ListLemmas.{all_then}
@@ -65,7 +65,7 @@ abbrev pub AreThere : List units.Unit → List Write → Type 0
 AreThere list writes = AllByRecursion (λ write. has write.key list ≡ true) writes
 
 above_taken : (after : Option UnitKey) (list : List units.Unit) (top : ℕ) (writes : List Write) → KeysGrow list → AreThere list writes
-    → count_by (is_above after) (taken list top writes) ≡ count_by (is_above after) list
+    → count_by (is_above after) (units_after list top writes) ≡ count_by (is_above after) list
 above_taken after list top [] grow all = refl
 above_taken after list top (write ∷ writes) grow all =
     let unit : units.Unit = numbered (top + 1) write in
@@ -73,9 +73,9 @@ above_taken after list top (write ∷ writes) grow all =
     all_then (λ one. has one.key list ≡ true) (λ one. has one.key (placed unit list) ≡ true) writes (λ one. has_placed one.key unit list) all.1 in
     above_taken after (placed unit list) (top + 1) writes (grow_placed unit list grow) still ∙ above_placed after unit list grow all.0
 
-pub ahead_taken : (after : Option UnitKey) (list : List units.Unit) (top : ℕ) (writes : List Write) → KeysGrow list → AreThere list writes → ahead after (taken list top writes) ≡ ahead after list
+pub ahead_taken : (after : Option UnitKey) (list : List units.Unit) (top : ℕ) (writes : List Write) → KeysGrow list → AreThere list writes → ahead after (units_after list top writes) ≡ ahead after list
 ahead_taken after list top writes grow all =
-    length-filter (is_above after) (taken list top writes) ∙ above_taken after list top writes grow all ∙ sym (length-filter (is_above after) list)
+    length-filter (is_above after) (units_after list top writes) ∙ above_taken after list top writes grow all ∙ sym (length-filter (is_above after) list)
 
 -- ---- the writes of a sweep are of keys that are there
 

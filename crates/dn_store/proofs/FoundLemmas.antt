@@ -7,7 +7,7 @@ use Rattle.std.specs.Prelude.{IsSomeAnd}
 use Rattle.dn_store.specs.declared.unit.Unit as units
 use Rattle.dn_store.specs.declared.unit.UnitKey.{UnitKey}
 use Rattle.dn_store.specs.declared.unit.Write.{Write}
-use Rattle.dn_store.specs.Table.{AreWritten, IsOfWrite, KeysDiffer, KeysGrow, IsNotWritten, has_key, numbered, placed, taken, unit_at}
+use Rattle.dn_store.specs.Table.{AreWritten, IsOfWrite, KeysDiffer, KeysGrow, IsNotWritten, has_key, numbered, placed, units_after, unit_at}
 use Rattle.dn_store.specs.Value.{key_order}
 use Rattle.dn_store.proofs.ListLemmas.{all_both, found_passes}
 use Rattle.dn_store.proofs.OrderLemmas.{IsAfter, apart_first, key_back, key_same, key_total}
@@ -49,26 +49,26 @@ other_placed key unit (next ∷ rest) apart =
 
 -- ---- after a batch
 
-pub other_taken : (key : UnitKey) (list : List units.Unit) (top : ℕ) (batch : List Write) → IsNotWritten key batch → unit_at key (taken list top batch) ≡ unit_at key list
+pub other_taken : (key : UnitKey) (list : List units.Unit) (top : ℕ) (batch : List Write) → IsNotWritten key batch → unit_at key (units_after list top batch) ≡ unit_at key list
 other_taken key list top [] apart = refl
 other_taken key list top (write ∷ batch) apart =
     other_taken key (placed (numbered (top + 1) write) list) (top + 1) batch apart.1
     ∙ other_placed key (numbered (top + 1) write) list (key_same.symm write.key key ∙ apart.0)
 
-written_taken : (list : List units.Unit) (top : ℕ) (batch : List Write) → KeysDiffer batch → AreWritten batch (taken list top batch)
+written_taken : (list : List units.Unit) (top : ℕ) (batch : List Write) → KeysDiffer batch → AreWritten batch (units_after list top batch)
 written_taken list top [] differ = tt
 written_taken list top (write ∷ batch) differ =
     let unit : units.Unit = numbered (top + 1) write in
-    let e : unit_at write.key (taken (placed unit list) (top + 1) batch) ≡ Some unit = other_taken write.key (placed unit list) (top + 1) batch differ.0 ∙ put_found write.key unit list (key_same.refl write.key) in
+    let e : unit_at write.key (units_after (placed unit list) (top + 1) batch) ≡ Some unit = other_taken write.key (placed unit list) (top + 1) batch differ.0 ∙ put_found write.key unit list (key_same.refl write.key) in
     (subst (λ (found : Option units.Unit). IsSomeAnd found (IsOfWrite write)) (sym e) (refl, refl, refl), written_taken (placed unit list) (top + 1) batch differ.1)
 
 -- ---- the same, for lists as the calls saw them
 
-pub written_of : (final start : List units.Unit) (top : ℕ) (seen batch : List Write) → final ≡ taken start top seen → seen ≡ batch → KeysDiffer batch → AreWritten batch final
+pub written_of : (final start : List units.Unit) (top : ℕ) (seen batch : List Write) → final ≡ units_after start top seen → seen ≡ batch → KeysDiffer batch → AreWritten batch final
 written_of final start top seen batch is same differ =
-    let e : taken start top batch ≡ final = sym (is ∙ ap (taken start top) same) in
+    let e : units_after start top batch ≡ final = sym (is ∙ ap (units_after start top) same) in
     subst (λ (list : List units.Unit). AreWritten batch list) e (written_taken start top batch differ)
 
-pub others_of : (final start list : List units.Unit) (top : ℕ) (seen batch : List Write) → final ≡ taken start top seen → seen ≡ batch → start ≡ list
+pub others_of : (final start list : List units.Unit) (top : ℕ) (seen batch : List Write) → final ≡ units_after start top seen → seen ≡ batch → start ≡ list
     → (key : UnitKey) → IsNotWritten key batch → unit_at key final ≡ unit_at key list
-others_of final start list top seen batch is same from key apart = ap (unit_at key) (is ∙ ap (taken start top) same) ∙ other_taken key start top batch apart ∙ ap (unit_at key) from
+others_of final start list top seen batch is same from key apart = ap (unit_at key) (is ∙ ap (units_after start top) same) ∙ other_taken key start top batch apart ∙ ap (unit_at key) from

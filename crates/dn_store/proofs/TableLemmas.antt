@@ -9,7 +9,7 @@ use Rattle.std.specs.Prelude.{IsTrue}
 use Rattle.dn_store.specs.declared.unit.Unit as units
 use Rattle.dn_store.specs.declared.unit.UnitKey.{UnitKey}
 use Rattle.dn_store.specs.declared.unit.Write.{Write}
-use Rattle.dn_store.specs.Table.{change_limit, IsLeastAbove, IsTable, KeysGrow, is_above, taken, unit_above}
+use Rattle.dn_store.specs.Table.{change_limit, IsLeastAbove, IsTable, KeysGrow, is_above, units_after, unit_above}
 use Rattle.dn_store.specs.Value.{fits, key_order}
 use Rattle.dn_store.proofs.ListLemmas.{all_then}
 use Rattle.dn_store.proofs.OrderLemmas.{IsAfter, key_total}
@@ -17,10 +17,10 @@ use Rattle.dn_store.proofs.TakenLemmas.{IsSoundList, all_brought, length_bound, 
 
 -- a table stays a table after a whole batch
 pub table_taken : (list : List units.Unit) (top : ℕ) (writes : List Write) → top + length writes ≤ change_limit → AllByRecursion (λ write. IsTrue (fits write.value)) writes → IsTable list top
-    → IsTable (taken list top writes) (top + length writes)
+    → IsTable (units_after list top writes) (top + length writes)
 table_taken list top writes most fit table =
     let before : IsSoundList list top = record { ordered = table.ordered; numbers = table.numbers; differ = table.differ } in
-    let after : IsSoundList (taken list top writes) (top + length writes) = sound_taken list top writes before in
+    let after : IsSoundList (units_after list top writes) (top + length writes) = sound_taken list top writes before in
     let brings = all_then (λ write. IsTrue (fits write.value)) (λ write. (number : ℕ) → top < number → IsTrue (fits write.value)) writes (λ write fits_in number above. fits_in) fit in
     record {
       ordered = after.ordered;

@@ -11,7 +11,7 @@ use Rattle.dn_store.specs.declared.unit.UnitKey.{UnitKey}
 use Rattle.dn_store.specs.declared.unit.UnitKey.TheVariants.{Props}
 use Rattle.dn_store.specs.declared.unit.Write.{Write}
 use Rattle.dn_store.specs.Contents.{number_of_unit, props_number}
-use Rattle.dn_store.specs.Table.{IsNumber, KeysGrow, numbered, placed, taken, unit_at}
+use Rattle.dn_store.specs.Table.{IsNumber, KeysGrow, numbered, placed, units_after, unit_at}
 use Rattle.dn_store.specs.Value.{key_order}
 use Rattle.dn_store.proofs.CountLemmas.{count_more, count_mono, count_out}
 use Rattle.dn_store.proofs.FoundLemmas.{other_placed, put_found}
@@ -55,7 +55,7 @@ all_split P write writes list all =
 -- what holds of each new unit, and of each old one that no write replaces
 pub all_taken_old : (P : units.Unit → Type 0) (list : List units.Unit) (top : ℕ) (writes : List Write) → KeysGrow list → ((unit : units.Unit) → top < unit.usn → P unit)
     → AllByRecursion (λ unit. list_any (λ write. is_eq (key_order unit.key write.key)) writes ≡ false → P unit) list
-    → AllByRecursion P (taken list top writes)
+    → AllByRecursion P (units_after list top writes)
 all_taken_old P list top [] grow new all = all_then (Kept P []) P list (λ unit kept. kept refl) all
 all_taken_old P list top (write ∷ writes) grow new all =
     let unit : units.Unit = numbered (top + 1) write in
@@ -86,13 +86,13 @@ stays p writes unit = p unit && not (is_written writes unit.key)
 -- no new unit passes, and each old one that passes and that no write replaces was counted before
 pub count_taken_old : (p r : units.Unit → Bool) (list : List units.Unit) (top : ℕ) (writes : List Write) → KeysGrow list → ((unit : units.Unit) → top < unit.usn → p unit ≡ false)
     → AllByRecursion (λ unit. list_any (λ write. is_eq (key_order unit.key write.key)) writes ≡ false → p unit ≡ true → r unit ≡ true) list
-    → count_by p (taken list top writes) ≤ count_by r list
+    → count_by p (units_after list top writes) ≤ count_by r list
 count_taken_old p r list top [] grow new all = count_mono p r list (all_then (Kept (Passes p r) []) (Passes p r) list (λ unit kept. kept refl) all)
 count_taken_old p r list top (write ∷ writes) grow new all =
     let unit : units.Unit = numbered (top + 1) write in
     let fails : p unit ≡ false = new unit (omega arith) in
     let between : units.Unit → Bool = stays p writes in
-    let later : count_by p (taken (placed unit list) (top + 1) writes) ≤ count_by between (placed unit list) =
+    let later : count_by p (units_after (placed unit list) (top + 1) writes) ≤ count_by between (placed unit list) =
     count_taken_old p between (placed unit list) (top + 1) writes (grow_placed unit list grow) (λ other above. new other (omega arith))
     (all_of (Kept (Passes p between) writes) (placed unit list)
     (λ other none passes. and_from (p other) (not (is_written writes other.key)) passes (not_from_false (is_written writes other.key) none))) in
@@ -105,19 +105,19 @@ count_taken_old p r list top (write ∷ writes) grow new all =
 
 -- ---- the zone's properties
 
-props_one : (list : List units.Unit) (top bound : ℕ) (writes : List Write) → bound ≤ top → number_of_unit (unit_at Props (taken list top writes)) ≤ bound
-    → unit_at Props (taken list top writes) ≡ unit_at Props list
+props_one : (list : List units.Unit) (top bound : ℕ) (writes : List Write) → bound ≤ top → number_of_unit (unit_at Props (units_after list top writes)) ≤ bound
+    → unit_at Props (units_after list top writes) ≡ unit_at Props list
 props_one list top bound [] le old = refl
 props_one list top bound (write ∷ writes) le old =
     let unit : units.Unit = numbered (top + 1) write in
-    let later : unit_at Props (taken (placed unit list) (top + 1) writes) ≡ unit_at Props (placed unit list) = props_one (placed unit list) (top + 1) bound writes (omega arith) old in
+    let later : unit_at Props (units_after (placed unit list) (top + 1) writes) ≡ unit_at Props (placed unit list) = props_one (placed unit list) (top + 1) bound writes (omega arith) old in
     later
     ∙ ⊎_elim
-    (λ same. let new : number_of_unit (unit_at Props (taken (placed unit list) (top + 1) writes)) ≡ top + 1 = ap number_of_unit (later ∙ put_found Props unit list same) in absurd (omega (arith, new, le, old)))
+    (λ same. let new : number_of_unit (unit_at Props (units_after (placed unit list) (top + 1) writes)) ≡ top + 1 = ap number_of_unit (later ∙ put_found Props unit list same) in absurd (omega (arith, new, le, old)))
     (λ apart. other_placed Props unit list apart) (cases_Bool (is_eq (key_order write.key Props)))
 
 -- where the number of the properties is old, they are as before
 pub props_taken : (list : List units.Unit) (top bound : ℕ) (writes : List Write) → bound ≤ top → AllByRecursion (λ unit. IsNumber top unit.usn) list → KeysGrow list
-    → props_number (taken list top writes) ≤ bound → unit_at Props (taken list top writes) ≡ unit_at Props list
+    → props_number (units_after list top writes) ≤ bound → unit_at Props (units_after list top writes) ≡ unit_at Props list
 unfolding props_number
 props_taken list top bound writes le numbers grow old = props_one list top bound writes le old

@@ -10,7 +10,7 @@ use Rattle.std.specs.declared.cmp.Ordering.{Ordering}
 use Rattle.std.specs.declared.cmp.Ordering.TheVariants.{Less, Equal, Greater}
 use Rattle.dn_store.specs.declared.unit.Unit as units
 use Rattle.dn_store.specs.declared.unit.Write.{Write}
-use Rattle.dn_store.specs.Table.{Differ, IsNumber, KeysGrow, numbered, placed, taken}
+use Rattle.dn_store.specs.Table.{Differ, IsNumber, KeysGrow, numbered, placed, units_after}
 use Rattle.dn_store.specs.Value.{key_order}
 use Rattle.dn_store.proofs.ListLemmas.{all_map, all_of, all_then, all_unmap}
 use Rattle.dn_store.proofs.OrderLemmas.{IsAfter, all_after, key_back, rest_after}
@@ -77,7 +77,7 @@ sound_placed top unit list is sound =
 
 -- what each write brings under any new number, and each unit from before has, each unit has after the writes
 pub all_brought : (P : units.Unit → Type 0) (list : List units.Unit) (top : ℕ) (writes : List Write) → AllByRecursion (λ write. (number : ℕ) → top < number → P (numbered number write)) writes
-    → AllByRecursion P list → AllByRecursion P (taken list top writes)
+    → AllByRecursion P list → AllByRecursion P (units_after list top writes)
 all_brought P list top [] brings all = all
 all_brought P list top (write ∷ writes) brings all =
     let later = all_then (λ one. (number : ℕ) → top < number → P (numbered number one)) (λ one. (number : ℕ) → top + 1 < number → P (numbered number one)) writes
@@ -85,25 +85,25 @@ all_brought P list top (write ∷ writes) brings all =
     all_brought P (placed (numbered (top + 1) write) list) (top + 1) writes later (all_placed P (numbered (top + 1) write) list (brings.0 (top + 1) (omega arith)) all)
 
 pub all_taken : (P : units.Unit → Type 0) (list : List units.Unit) (top : ℕ) (writes : List Write) → ((unit : units.Unit) → top < unit.usn → P unit) → AllByRecursion P list
-    → AllByRecursion P (taken list top writes)
+    → AllByRecursion P (units_after list top writes)
 all_taken P list top writes new all =
     all_brought P list top writes (all_of (λ write. (number : ℕ) → top < number → P (numbered number write)) writes (λ write number. new (numbered number write))) all
 
 -- order and numbers stay sound
-pub sound_taken : (list : List units.Unit) (top : ℕ) (writes : List Write) → IsSoundList list top → IsSoundList (taken list top writes) (top + length writes)
+pub sound_taken : (list : List units.Unit) (top : ℕ) (writes : List Write) → IsSoundList list top → IsSoundList (units_after list top writes) (top + length writes)
 sound_taken list top [] sound = let e : top ≡ top + 0 = omega arith in subst (IsSoundList list) e sound
 sound_taken list top (write ∷ writes) sound =
     let unit : units.Unit = numbered (top + 1) write in
     let e : (top + 1) + length writes ≡ top + suc (length writes) = omega arith in
-    subst (IsSoundList (taken (placed unit list) (top + 1) writes)) e (sound_taken (placed unit list) (top + 1) writes (sound_placed top unit list refl sound))
+    subst (IsSoundList (units_after (placed unit list) (top + 1) writes)) e (sound_taken (placed unit list) (top + 1) writes (sound_placed top unit list refl sound))
 
 -- one write more is taken
 pub taken_step : (old new : List units.Unit) (batch : List Write) (number at : ℕ) (unit : units.Unit) (write : Write) (final : List units.Unit) → new ≡ placed unit old → unit ≡ numbered (number + 1) write
-    → write ≡ get_or batch at write → at < length batch → taken old number (drop at batch) ≡ final → taken new (number + 1) (drop (at + 1) batch) ≡ final
+    → write ≡ get_or batch at write → at < length batch → units_after old number (drop at batch) ≡ final → units_after new (number + 1) (drop (at + 1) batch) ≡ final
 taken_step old new batch number at unit write final is one from lt later =
     let e : drop at batch ≡ write ∷ drop (at + 1) batch = drop_more batch at write lt ∙ ap (λ (w : Write). w ∷ drop (at + 1) batch) (sym from) in
-    ap (λ (l : List units.Unit). taken l (number + 1) (drop (at + 1) batch)) (is ∙ ap (λ (u : units.Unit). placed u old) one)
-    ∙ ap (taken old number) (sym e) ∙ later
+    ap (λ (l : List units.Unit). units_after l (number + 1) (drop (at + 1) batch)) (is ∙ ap (λ (u : units.Unit). placed u old) one)
+    ∙ ap (units_after old number) (sym e) ∙ later
 
 -- ---- different numbers up to a bound are no more than the bound
 

@@ -7,7 +7,7 @@ use Rattle.dn_store.specs.declared.unit.Unit as units
 use Rattle.dn_store.specs.declared.unit.UnitKey.{UnitKey}
 use Rattle.dn_store.specs.declared.unit.Write.{Write}
 use Rattle.dn_store.specs.Contents.{rows_at, rows_in, rows_of_unit}
-use Rattle.dn_store.specs.Table.{numbered, placed, taken}
+use Rattle.dn_store.specs.Table.{numbered, placed, units_after}
 use Rattle.dn_store.specs.Value.{key_order}
 use Rattle.dn_store.proofs.FoundLemmas.{other_placed, put_found}
 
@@ -30,10 +30,10 @@ either_then rows before between now b true first second = (true, second)
 either_then rows before between now b false first second = (b, second ∙ first)
 
 pub rows_taken : (key : UnitKey) (rows : List Record) (list : List units.Unit) (top : ℕ) (batch : List Write) → AllByRecursion (Brings key rows) batch
-    → IsEither rows (rows_at key list) (rows_at key (taken list top batch))
+    → IsEither rows (rows_at key list) (rows_at key (units_after list top batch))
 rows_taken key rows list top [] all = (false, refl)
 rows_taken key rows list top (write ∷ batch) all =
     let unit : units.Unit = numbered (top + 1) write in
     let first : IsEither rows (rows_at key list) (rows_at key (placed unit list)) = rows_placed key rows unit list (is_eq (key_order write.key key)) refl all.0 in
-    let second : IsEither rows (rows_at key (placed unit list)) (rows_at key (taken (placed unit list) (top + 1) batch)) = rows_taken key rows (placed unit list) (top + 1) batch all.1 in
-    either_then rows (rows_at key list) (rows_at key (placed unit list)) (rows_at key (taken (placed unit list) (top + 1) batch)) first.0 second.0 first.1 second.1
+    let second : IsEither rows (rows_at key (placed unit list)) (rows_at key (units_after (placed unit list) (top + 1) batch)) = rows_taken key rows (placed unit list) (top + 1) batch all.1 in
+    either_then rows (rows_at key list) (rows_at key (placed unit list)) (rows_at key (units_after (placed unit list) (top + 1) batch)) first.0 second.0 first.1 second.1

@@ -5,14 +5,14 @@ use Rattle.dn_name.specs.Name.{Labels}
 use Rattle.dn_store.specs.declared.unit.Unit as units
 use Rattle.dn_store.specs.declared.unit.UnitKey.{UnitKey}
 use Rattle.dn_store.specs.declared.unit.Write.{Write}
-use Rattle.dn_store.specs.Table.{has_key, numbered, run_after, taken, unit_at, write_of}
+use Rattle.dn_store.specs.Table.{has_key, numbered, run_after, units_after, unit_at, write_of}
 use Rattle.dn_store.specs.Valid.{IsNamedKey, IsValidUnit, IsValidWrite}
 use Rattle.dn_store.proofs.ListLemmas.{all_found, all_map, all_then}
 use Rattle.dn_store.proofs.RunLemmas.{run_all}
 use Rattle.dn_store.proofs.TakenLemmas.{all_brought}
 
 pub valid_taken : (apex : Labels) (list : List units.Unit) (top : ℕ) (writes : List Write) → AllByRecursion (IsValidUnit apex) list → AllByRecursion (IsValidWrite apex) writes
-    → AllByRecursion (IsValidUnit apex) (taken list top writes)
+    → AllByRecursion (IsValidUnit apex) (units_after list top writes)
 valid_taken apex list top writes old new =
     let brings = all_then (IsValidWrite apex) (λ write. (number : ℕ) → top < number → IsValidUnit apex (numbered number write)) writes (λ write valid number above. valid) new in
     all_brought (IsValidUnit apex) list top writes brings old

@@ -1,7 +1,7 @@
 ghost use Rattle.std.specs.Prelude.{◌≡◌, ◌≤◌, ◌+◌, ℕ, [], length, map, nat_lt, option_copied, IfOk, IsTrue};
 ghost use Rattle.std.specs.List.{AllByRecursion};
 ghost use Rattle.dn_store.specs.Run.{IsRun};
-ghost use Rattle.dn_store.specs.Table.{AreWritten, IsLeastAbove, IsNotWritten, IsTable, KeysDiffer, change_limit, run_after, taken, unit_above, unit_at, write_of};
+ghost use Rattle.dn_store.specs.Table.{AreWritten, IsLeastAbove, IsNotWritten, IsTable, KeysDiffer, change_limit, run_after, units_after, unit_above, unit_at, write_of};
 ghost use Rattle.dn_store.specs.declared.unit.UnitKey.{UnitKey};
 ghost use Rattle.dn_store.specs.Value.{fits};
 
@@ -121,7 +121,7 @@ impl Table {
         requires keys { KeysDiffer batch.now }
         requires values { AllByRecursion (λ write. IsTrue (fits write.value)) batch.now }
         requires count { self.now.1 + length batch.now ≤ change_limit }
-        ensures after { IfOk result (λ table. table ≡ (taken self.now.0 self.now.1 batch.now, self.now.1 + length batch.now)) }
+        ensures after { IfOk result (λ table. table ≡ (units_after self.now.0 self.now.1 batch.now, self.now.1 + length batch.now)) }
         // So each write is found under its key, and under any other key the unit from before.
         ensures written { IfOk result (λ table. AreWritten batch.now table.0) }
         ensures others { (key : UnitKey) → IsNotWritten key batch.now → IfOk result (λ table. unit_at key table.0 ≡ unit_at key self.now.0) }

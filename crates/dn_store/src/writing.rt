@@ -2,7 +2,7 @@ ghost use Rattle.std.specs.Prelude.{◌≡◌, ◌+◌, ◌≤◌, IfOk, is_some
 ghost use Rattle.dn_pages.specs.Pages.{IsInside, IsSettled, items, rank};
 ghost use Rattle.dn_store.specs.Numbers.{IsKept};
 ghost use Rattle.dn_store.specs.Places.{picked, place_among};
-ghost use Rattle.dn_store.specs.Table.{change_limit, numbered, placed, taken};
+ghost use Rattle.dn_store.specs.Table.{change_limit, numbered, placed, units_after};
 
 use crate::finding::number_with;
 use crate::held::Held;
@@ -78,7 +78,7 @@ pub fn take_writes(
 ) -> Result<Drafts, OutOfMemory>
     requires most { top + length batch.now ≤ change_limit }
     requires kept { IsKept (items start.units) (items start.changes) top }
-    ensures taken { IfOk result (λ later. items later.units ≡ taken (items start.units) top batch.now) }
+    ensures taken { IfOk result (λ later. items later.units ≡ units_after (items start.units) top batch.now) }
     ensures kept { IfOk result (λ later. IsKept (items later.units) (items later.changes) (top + length batch.now)) }
 {
     let mut drafts = start;

@@ -1,7 +1,7 @@
-use crate::fixtures::{check_bytes, list_of, moment};
+use crate::fixtures::{check_bytes, list_of};
 use dn_io::{
-    Duplicate, Failed, Line, LineBuf, LineError, List, MemSink, MemSource, Moment, Sink, Source,
-    Status, StdSink, StdSource, SureSink, SureSource, read_line, write_all,
+    Failed, Line, LineBuf, LineError, List, MemSink, MemSource, Sink, Source, StdSink, StdSource,
+    SureSink, read_line, write_all,
 };
 use std::alloc::Global;
 use std::io::{self, ErrorKind, Read, Write};
@@ -39,29 +39,6 @@ fn check_lines<S: Source>(rt: &impl Abort, alloc: Global, source: &mut S, want: 
     check_bytes(rt, found.as_slice(), want.as_bytes(), want);
 }
 
-/// An input in memory, one that never fails, and one of std have the same lines.
-fn check_input(rt: &impl Abort, alloc: Global, input: &str, want: &str) {
-    let bytes = list_of(rt, alloc, input.as_bytes());
-    check_lines(rt, alloc, &mut MemSource::of(bytes, List::new(alloc)), want);
-    let bytes = list_of(rt, alloc, input.as_bytes());
-    check_lines(rt, alloc, &mut SureSource::of(bytes), want);
-    check_lines(rt, alloc, &mut StdSource::of(input.as_bytes()), want);
-}
-
-#[test]
-fn lines_of_an_input(rt: HostRuntime) {
-    for (input, want) in [
-        ("", "...."),
-        ("a", "a|..."),
-        ("a\r\nb\n", "a|b|.."),
-        ("a\n\nb\r", "a||b\r|."),
-        ("\r\n\r\r\n\n", "|\r||."),
-        ("a\rb\n\r", "a\rb|\r|.."),
-    ] {
-        check_input(&rt, rt.alloc(), input, want);
-    }
-}
-
 /// The lines of an input whose read of this number fails.
 fn check_fault(rt: &impl Abort, alloc: Global, call: u64, want: &str) {
     let bytes = list_of(rt, alloc, b"a\nb");
@@ -76,39 +53,6 @@ fn a_read_fault_stays(rt: HostRuntime) {
         check_fault(&rt, rt.alloc(), call, want);
     }
     check_lines(&rt, rt.alloc(), &mut StdSource::of(Broken), "rrrr");
-}
-
-/// How many bytes the first line has of an input of so many `x` and an end, none where it is too long.
-fn first_line(rt: &impl Abort, alloc: Global, count: usize, end: &str) -> Option<usize> {
-    let mut bytes = List::of(vec![in alloc; b'x'; count].expect(rt, "memory"));
-    bytes.extend(end.as_bytes()).expect(rt, "memory");
-    let mut lines = LineBuf::new(alloc).expect(rt, "memory");
-    match read_line(alloc, &mut SureSource::of(bytes), &mut lines) {
-        Ok(Line::Text(text)) => Some(text.len()),
-        Ok(Line::End) => Some(0),
-        Err(LineError::TooLong) => None,
-        Err(_) => panic!(rt; "the line is read"),
-    }
-}
-
-/// How many bytes the first line has.
-fn check_length(rt: &impl Abort, alloc: Global, count: usize, end: &str, want: Option<usize>) {
-    let found = first_line(rt, alloc, count, end);
-    assert_eq!(rt; found, want, "at {count} and {end:?}");
-}
-
-#[test]
-fn long_lines(rt: HostRuntime) {
-    for (count, end, want) in [
-        (200_000, "\n", Some(200_000)),
-        (200_001, "\n", None),
-        (199_999, "\r\n", Some(199_999)),
-        (200_000, "\r\n", None),
-        (200_000, "", Some(200_000)),
-        (200_001, "", None),
-    ] {
-        check_length(&rt, rt.alloc(), count, end, want);
-    }
 }
 
 /// What a piece's writing answers, and what is written then.
@@ -166,32 +110,6 @@ fn a_writer_that_cannot_flush(rt: HostRuntime) {
     assert_eq!(rt; sink.flush(), Err(Failed));
 }
 
-/// So many letters, of which neighbours differ.
-fn letters(rt: &impl Abort, alloc: Global, count: usize) -> List<u8> {
-    let mut letters = List::new(alloc);
-    for at in 0..count {
-        letters.push(b'a' + (at % 26) as u8).expect(rt, "memory");
-    }
-    letters
-}
-
-/// The text of a reader's first line.
-fn first_text<R: Read + Drop>(rt: &impl Abort, alloc: Global, reader: R) -> List<u8> {
-    let mut lines = LineBuf::new(alloc).expect(rt, "memory");
-    match read_line(alloc, &mut StdSource::of(reader), &mut lines) {
-        Ok(Line::Text(text)) => text,
-        _ => panic!(rt; "the line is read"),
-    }
-}
-
-// Two reads of 4,096 bytes make the line.
-#[test]
-fn a_line_of_more_than_one_buffer(rt: HostRuntime) {
-    let line = letters(&rt, rt.alloc(), 5_000);
-    let found = first_text(&rt, rt.alloc(), line.as_slice());
-    check_bytes(&rt, found.as_slice(), line.as_slice(), "the line");
-}
-
 #[test]
 fn a_piece_that_is_taken_in_parts(rt: HostRuntime) {
     let mut parts = Parts {
@@ -236,91 +154,4 @@ impl Write for Broken {
     fn flush(&mut self) -> io::Result<()> {
         Err(io::Error::from(ErrorKind::Other))
     }
-}
-
-/// The moment of so many ticks is in this hour and second.
-fn check_moment(rt: &impl Abort, ticks: u64, hour: u32, seconds: u64) {
-    let moment = moment(rt, ticks);
-    assert_eq!(rt; moment.ticks(), ticks);
-    assert_eq!(rt; moment.hour(), hour);
-    assert_eq!(rt; moment.seconds(), seconds);
-}
-
-#[test]
-fn hours_and_seconds_of_moments(rt: HostRuntime) {
-    check_moment(&rt, 36_000_000_000, 1, 3_600);
-    check_moment(&rt, 133_485_408_000_000_000, 3_707_928, 13_348_540_800);
-    check_moment(&rt, u64::MAX, 512_409_557, 1_844_674_407_370);
-}
-
-#[test]
-fn moments_begin_an_hour_after_1601(rt: HostRuntime) {
-    assert_eq!(rt; Moment::of(35_999_999_999), None);
-    assert_eq!(rt; Some(Moment::first()), Moment::of(36_000_000_000));
-}
-
-#[test]
-fn exit_codes_of_statuses(rt: HostRuntime) {
-    let cases = [
-        (Status::Done, 0),
-        (Status::BadLine(7), 1),
-        (Status::Usage, 2),
-        (Status::ReadFault, 3),
-        (Status::WriteFault, 4),
-        (Status::OutOfMemory, 5),
-        (Status::TooLong, 6),
-        (Status::LinkFault, 8),
-    ];
-    for (status, code) in cases {
-        assert_eq!(rt; status.code(), code);
-    }
-}
-
-/// A list has these bytes.
-fn check_list(rt: &impl Abort, list: &List<u8>, want: &[u8]) {
-    check_bytes(rt, list.as_slice(), want, "the list");
-    assert_eq!(rt;
-        (list.len(), list.is_empty()),
-        (want.len(), want.is_empty())
-    );
-}
-
-#[test]
-fn lists_of_bytes(rt: HostRuntime) {
-    let alloc = rt.alloc();
-    let mut list = List::from_slice(alloc, b"abc").expect(&rt, "memory");
-    check_list(&rt, &list, b"abc");
-    list.extend_copies(alloc, b"de").expect(&rt, "memory");
-    check_list(&rt, &list, b"abcde");
-    assert!(rt; list.len() == 5);
-    list.set(1, b'x');
-    check_list(&rt, &list, b"axcde");
-    check_list(&rt, &List::new(alloc), b"");
-}
-
-#[test]
-fn items_of_a_list(rt: HostRuntime) {
-    let list = list_of(&rt, rt.alloc(), b"abc");
-    assert_eq!(rt; list.get(1).copied(), Some(b'b'));
-    assert_eq!(rt; list.get(3).copied(), None);
-}
-
-/// A list of one list of bytes.
-fn nested(rt: &impl Abort, alloc: Global, bytes: &[u8]) -> List<List<u8>> {
-    let mut outer = List::new(alloc);
-    outer.push(list_of(rt, alloc, bytes)).expect(rt, "memory");
-    outer
-}
-
-#[test]
-fn a_copy_of_a_list_of_lists(rt: HostRuntime) {
-    let alloc = rt.alloc();
-    let outer = nested(&rt, alloc, b"axcde");
-    let copy = outer.copy(alloc).expect(&rt, "memory");
-    check_list(
-        &rt,
-        copy.get(0).expect(&rt, "the copy has an item"),
-        b"axcde",
-    );
-    assert_eq!(rt; copy.into_vec().len(), 1);
 }

@@ -13,7 +13,7 @@ use Rattle.dn_store.specs.declared.unit.UnitKey.{UnitKey}
 use Rattle.dn_store.specs.declared.unit.UnitValue.{UnitValue}
 use Rattle.dn_store.specs.declared.unit.Write.{Write}
 use Rattle.dn_store.specs.Contents.{node_value}
-use Rattle.dn_store.specs.Table.{TableState, change_limit, taken, unit_at}
+use Rattle.dn_store.specs.Table.{TableState, change_limit, units_after, unit_at}
 use Rattle.dn_store.specs.Value.{fits}
 use Rattle.dn_update.specs.declared.plan.Limit.{Limit}
 use Rattle.dn_update.specs.declared.plan.Limit.TheVariants.{NodeSize, Version}
@@ -51,7 +51,7 @@ pub data Outcome : Type 0 where
 
 -- the units and the change count after writes
 abbrev pub with_writes : List Write → TableState → TableState
-with_writes writes table = (taken table.0 table.1 writes, table.1 + length writes)
+with_writes writes table = (units_after table.0 table.1 writes, table.1 + length writes)
 
 abbrev pub when_stamped : TableState → Option (List Write) → TableState × Outcome
 when_stamped table None = (table, Passed Version)

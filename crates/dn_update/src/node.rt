@@ -2,7 +2,7 @@ ghost use Rattle.std.specs.Prelude.{◌≡◌, ◌≤◌, ◌&&◌, not, length,
 ghost use Rattle.std.specs.List.{list_any};
 ghost use Rattle.dn_update.specs.Node.{bars, has_data_of, is_alias, is_there_as, placed_row};
 ghost use Rattle.dn_update.specs.Node.Places.{behind_place, comes_behind, place_of};
-ghost use Rattle.dn_update.specs.Node.Added.{Adds};
+ghost use Rattle.dn_update.specs.Node.Added.{AddsRow};
 
 use dn_io::{List, OutOfMemory};
 use dn_rdata::{CNAME, Record, compare_rows};
@@ -98,7 +98,7 @@ pub fn with_added(
     row: Record,
     rows: &[Record],
 ) -> Result<Option<List<Record>>, OutOfMemory>
-    ensures { IfOk result (λ added. Adds added row rows.now) }
+    ensures { IfOk result (λ added. AddsRow added row rows.now) }
 {
     if is_barred(&row, rows) {
         return Ok(None);

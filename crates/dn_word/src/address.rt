@@ -1,4 +1,4 @@
-ghost use Rattle.std.specs.Prelude.{◌≡◌, [], ◌∷◌, ◌++◌, false, length, nat_eq, position, MatchOption, OnOk};
+ghost use Rattle.std.specs.Prelude.{◌≡◌, [], ◌∷◌, ◌++◌, false, length, nat_eq, position, IfOk, MatchOption, OnErr, OnOk};
 ghost use Rattle.std.specs.List.{slice_split};
 ghost use Rattle.dn_word.specs.Addresses.{address_of, all_within, decimals_behind, dotted_decimals};
 ghost use Rattle.dn_word.specs.Numbers.{number_within};
@@ -89,13 +89,27 @@ fn push_decimals_behind(
     Ok(())
 }
 
-/// Prints bytes as decimals between dots.
-pub fn push_dotted(alloc: Global, out: &mut List<u8>, bytes: &[u8]) -> Result<(), OutOfMemory>
-    ensures { OnOk result (out.new ≡ out.old ++ dotted_decimals bytes.now) }
+// The text of bytes as decimals between dots.
+fn dotted(alloc: Global, bytes: &[u8]) -> Result<List<u8>, OutOfMemory>
+    ensures { IfOk result (λ text. text ≡ dotted_decimals bytes.now) }
 {
-    let [first, rest @ ..] = bytes else {
-        return Ok(());
-    };
-    push_number(alloc, out, u64::from(*first))?;
-    push_decimals_behind(alloc, out, b".", rest)
+    let mut text = List::new(alloc);
+    if let [first, rest @ ..] = bytes {
+        push_number(alloc, &mut text, u64::from(*first))?;
+        push_decimals_behind(alloc, &mut text, b".", rest)?;
+    }
+    Ok(text)
+}
+
+/// Prints bytes as decimals between dots.
+///
+/// # Errors
+/// `OutOfMemory`; nothing is printed then.
+pub fn push_dotted(alloc: Global, out: &mut List<u8>, bytes: &[u8]) -> Result<(), OutOfMemory>
+    ensures ok { OnOk result (out.new ≡ out.old ++ dotted_decimals bytes.now) }
+    ensures err { OnErr result (out.new ≡ out.old) }
+{
+    // All of it is made first, so that no front of it stays where memory runs out.
+    let text = dotted(alloc, bytes)?;
+    out.extend(text.as_slice())
 }

@@ -1,4 +1,4 @@
-ghost use Rattle.std.specs.Prelude.{◌≡◌, ◌++◌, IfOk, OnOk};
+ghost use Rattle.std.specs.Prelude.{◌≡◌, ◌++◌, IfOk, OnErr, OnOk};
 ghost use Rattle.dn_word.specs.Hex.{bytes_of_hex, hex_text};
 ghost use Rattle.dn_word.specs.Print.{as_line};
 ghost use Rattle.dn_word.specs.Reading.{Reads};
@@ -38,9 +38,13 @@ pub fn hex_line(alloc: Global, bytes: &[u8]) -> Result<List<u8>, OutOfMemory>
 }
 
 /// Prints bytes as hex digits in lower case.
+///
+/// # Errors
+/// `OutOfMemory`; nothing is printed then.
 #[tactic(auto, unfolding(crate::specs::Hex::hex_text))]
 pub fn push_hex(alloc: Global, out: &mut List<u8>, bytes: &[u8]) -> Result<(), OutOfMemory>
-    ensures { OnOk result (out.new ≡ out.old ++ hex_text bytes.now) }
+    ensures ok { OnOk result (out.new ≡ out.old ++ hex_text bytes.now) }
+    ensures err { OnErr result (out.new ≡ out.old) }
 {
     let digits = hex::encode(alloc, bytes)?;
     out.extend(digits.as_bytes())

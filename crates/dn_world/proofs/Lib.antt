@@ -1,9 +1,11 @@
+pub mod AgingRuns
+pub mod AlikeReplies
 pub mod CallerLemmas
-pub mod DatagramLemmas
+pub mod DifferLemmas
 pub mod EveryZone
-pub mod RepliesRead
 pub mod RunLemmas
 pub mod SlotLemmas
-pub mod ToldLemmas
 pub mod ValidWorld
+pub mod ViewLemmas
 pub mod WorldLemmas
+pub mod ZoneMoves

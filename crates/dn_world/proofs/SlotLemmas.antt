@@ -1,7 +1,7 @@
 -- What holds of each item of a list, where one is added behind it, takes another's place, or is looked up or found.
 use Rattle.std.proofs.Common.{◌≡◌, ℕ, zero, suc, ◌+◌, Bool, true, false, cond, not, length, nat_lt, List, [], ◌∷◌, ◌++◌, Option, None, Some, refl, ap, subst, arith, ◌∙◌}
 use Rattle.std.specs.List.{AllByRecursion, position_or_len}
-use Rattle.std.specs.Prelude.{find, position, slice_get, slice_set}
+use Rattle.std.specs.Prelude.{◌≢◌, find, position, slice_get, slice_set}
 
 pub all_one_more : {A : Type 0} (P : A → Type 0) (list : List A) (one : A) → AllByRecursion P list → P one → AllByRecursion P (list ++ one ∷ [])
 all_one_more P [] one all holds = (holds, tt)
@@ -16,6 +16,19 @@ pub all_get : {A : Type 0} (P : A → Type 0) (list : List A) (at : ℕ) (one : 
 all_get P [] at one all is = absurd (cc)
 all_get P (first ∷ rest) zero one all is = let e : first ≡ one = cc in subst P e all.0
 all_get P (first ∷ rest) (suc at) one all is = all_get P rest at one all.1 is
+
+-- an item put at a place stands there, and each other stays
+pub get_set : {A : Type 0} (list : List A) (at : ℕ) (one new : A) → slice_get list at ≡ Some one → slice_get (slice_set list at new) at ≡ Some new
+get_set [] at one new is = absurd (cc)
+get_set (first ∷ rest) zero one new is = refl
+get_set (first ∷ rest) (suc at) one new is = get_set rest at one new is
+
+pub get_other : {A : Type 0} (list : List A) (at place : ℕ) (new : A) → place ≢ at → slice_get (slice_set list at new) place ≡ slice_get list place
+get_other [] at place new differ = refl
+get_other (first ∷ rest) zero zero new differ = absurd (differ refl)
+get_other (first ∷ rest) zero (suc place) new differ = refl
+get_other (first ∷ rest) (suc at) zero new differ = refl
+get_other (first ∷ rest) (suc at) (suc place) new differ = get_other rest at place new (λ same. differ (ap suc same))
 
 -- ---- the first item that passes a test
 

@@ -6,7 +6,7 @@ use Rattle.dn_link.specs.declared.packet.Changes.{Changes}
 use Rattle.dn_zone.specs.declared.event.Answer.{Answer}
 use Rattle.dn_zone.specs.declared.zone.Prepared.{Prepared}
 use Rattle.dn_zone.specs.declared.zone.Prepared.TheVariants.{Same}
-use Rattle.dn_zone.specs.declared.zone.Zone.{Zone}
+use Rattle.dn_zone.specs.State.{ZoneState}
 use Rattle.dn_zone.specs.Zone.{merge_step, zstep}
 use Rattle.dn_zone.specs.Zone.Preparing.{Prepares}
 use Rattle.dn_world.specs.declared.event.WorldAnswer.TheVariants as answers
@@ -14,18 +14,18 @@ use Rattle.dn_world.specs.World.{is_zone}
 use Rattle.dn_world.specs.World.Merges.{MergesAt}
 use Rattle.dn_world.specs.World.Puts.{Puts}
 
-set_same : (zones : List Zone) (at : ℕ) (zone : Zone) → slice_get zones at ≡ Some zone → slice_set zones at zone ≡ zones
+set_same : (zones : List ZoneState) (at : ℕ) (zone : ZoneState) → slice_get zones at ≡ Some zone → slice_set zones at zone ≡ zones
 set_same [] at zone is = refl
 set_same (first ∷ rest) zero zone is = let e : first ≡ zone = cc in λ i. sym e i ∷ rest
-set_same (first ∷ rest) (suc at) zone is = ap (λ (zones : List Zone). first ∷ zones) (set_same rest at zone is)
+set_same (first ∷ rest) (suc at) zone is = ap (λ (zones : List ZoneState). first ∷ zones) (set_same rest at zone is)
 
 -- a zone that stays the same leaves the zones as they are
-pub puts_same : (zones : List Zone) (place : ℕ) (answer : Answer) → Puts (Same answer) zones zones place answer
+pub puts_same : (zones : List ZoneState) (place : ℕ) (answer : Answer) → Puts (Same answer) zones zones place answer
 puts_same zones place answer zone stepped there is =
-    (ap (λ (after : Zone × Answer). slice_set zones place after.0) is ∙ set_same zones place zone there, ap (λ (after : Zone × Answer). after.1) is)
+    (ap (λ (after : ZoneState × Answer). slice_set zones place after.0) is ∙ set_same zones place zone there, ap (λ (after : ZoneState × Answer). after.1) is)
 
 -- changes that are merged into the zone of a replica
-pub merge_puts : (id : ReplicaId) (changes : Changes) (place : ℕ) (zone : Zone) (made : Prepared) (before after : List Zone) (answer : Answer)
+pub merge_puts : (id : ReplicaId) (changes : Changes) (place : ℕ) (zone : ZoneState) (made : Prepared) (before after : List ZoneState) (answer : Answer)
     → Some place ≡ position (is_zone id changes.zone) before → Some zone ≡ slice_get before place
     → Prepares made zone (merge_step zone changes) → Puts made before after place answer
     → MergesAt before after id changes (answers.Zone answer)

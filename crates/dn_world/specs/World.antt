@@ -11,8 +11,8 @@ use Rattle.dn_link.specs.declared.packet.Packet.TheVariants as packets
 use Rattle.dn_zone.specs.declared.event.Answer.{Answer}
 use Rattle.dn_zone.specs.declared.event.Event.{Event}
 use Rattle.dn_zone.specs.declared.event.Event.TheVariants as zone_events
-use Rattle.dn_zone.specs.declared.zone.Zone.{Zone}
-use Rattle.dn_zone.specs.Creation.{created, joined}
+use Rattle.dn_zone.specs.State.{ZoneState}
+use Rattle.dn_zone.specs.Creation.{created, joined_zone}
 use Rattle.dn_zone.specs.Merge.{changes_of, pull_of}
 use Rattle.dn_zone.specs.Zone.{zstep}
 use Rattle.dn_world.specs.declared.event.WorldAnswer.{WorldAnswer}
@@ -24,65 +24,76 @@ use Rattle.dn_world.specs.declared.event.WorldNo.{WorldNo}
 use Rattle.dn_world.specs.declared.event.WorldNo.TheVariants.{IdTaken, NoReplica, NoZone, ZoneThere, NoPacket, SelfPull, Full}
 use Rattle.dn_world.specs.declared.world.Post.{Post}
 use Rattle.dn_world.specs.declared.world.Replica.{Replica}
-use Rattle.dn_world.specs.declared.world.World.{World}
+use Rattle.dn_world.specs.State.{WorldState}
 
 abbrev pub has_id : ReplicaId → Replica → Bool
 has_id id replica = is_id replica.id id
 
-abbrev pub is_of : ReplicaId → Zone → Bool
+abbrev pub is_of : ReplicaId → ZoneState → Bool
 is_of id zone = is_id zone.id id
 
 -- the zone of this replica with this apex
-abbrev pub is_zone : ReplicaId → Labels → Zone → Bool
+abbrev pub is_zone : ReplicaId → Labels → ZoneState → Bool
 is_zone id apex zone = is_of id zone && is_same zone.apex apex
 
+-- the replica has a zone with this apex
+abbrev pub has_zone : List ZoneState → ReplicaId → Labels → Bool
+has_zone zones id apex = list_any (is_zone id apex) zones
+
 -- the world without replicas
-unfoldable pub empty_world : World
+unfoldable pub empty_world : WorldState
 empty_world = record { replicas = []; zones = []; packets = [] }
 
-abbrev pub with_replica : World → Replica → World
+abbrev pub with_replica : WorldState → Replica → WorldState
 with_replica world replica = record world { replicas = world.replicas ++ replica ∷ [] }
 
-abbrev pub with_zone : World → Zone → World
+abbrev pub with_zone : WorldState → ZoneState → WorldState
 with_zone world zone = record world { zones = world.zones ++ zone ∷ [] }
 
-abbrev pub set_zone : World → ℕ → Zone → World
+abbrev pub set_zone : WorldState → ℕ → ZoneState → WorldState
 set_zone world at zone = record world { zones = slice_set world.zones at zone }
 
+-- the most replicas of a world, and the most zones of a replica
+abbrev pub replica_limit : ℕ
+replica_limit = 64
+
+abbrev pub zone_limit : ℕ
+zone_limit = 16
+
 -- a new replica
-unfoldable pub wstep_replica : World → ReplicaId → Labels → World × WorldAnswer
+unfoldable pub wstep_replica : WorldState → ReplicaId → Labels → WorldState × WorldAnswer
 wstep_replica world id host =
     if list_any (has_id id) world.replicas then (world, No IdTaken)
-    else (if nat_le 64 (length world.replicas) then (world, No Full)
+    else (if nat_le replica_limit (length world.replicas) then (world, No Full)
     else (with_replica world (record { id = id; host = host }), Made))
 
 -- why a replica can't have a new zone with this apex
-abbrev pub no_room : World → ReplicaId → Labels → Option WorldNo
+abbrev pub no_room : WorldState → ReplicaId → Labels → Option WorldNo
 no_room world id apex =
-    if list_any (is_zone id apex) world.zones then Some ZoneThere
-    else (if nat_le 16 (count_by (is_of id) world.zones) then Some Full else None)
+    if has_zone world.zones id apex then Some ZoneThere
+    else (if nat_le zone_limit (count_by (is_of id) world.zones) then Some Full else None)
 
-abbrev pub zone_unless : Option WorldNo → World → Zone → World × WorldAnswer
+abbrev pub zone_unless : Option WorldNo → WorldState → ZoneState → WorldState × WorldAnswer
 zone_unless (Some why) world zone = (world, No why)
 zone_unless None world zone = (with_zone world zone, Made)
 
 -- a new zone of a replica, made as `make` says
-unfoldable pub wstep_zone : World → Option Replica → Labels → (Replica → Zone) → World × WorldAnswer
+unfoldable pub wstep_zone : WorldState → Option Replica → Labels → (Replica → ZoneState) → WorldState × WorldAnswer
 wstep_zone world None apex make = (world, No NoReplica)
 wstep_zone world (Some replica) apex make = zone_unless (no_room world replica.id apex) world (make replica)
 
-abbrev pub acted_at : World → ℕ → Zone × Answer → World × WorldAnswer
+abbrev pub acted_at : WorldState → ℕ → ZoneState × Answer → WorldState × WorldAnswer
 acted_at world at after = (set_zone world at after.0, answers.Zone after.1)
 
-abbrev pub act_in : World → Event → ℕ → Option Zone → World × WorldAnswer
+abbrev pub act_in : WorldState → Event → ℕ → Option ZoneState → WorldState × WorldAnswer
 act_in world event at None = (world, No NoZone)
 act_in world event at (Some zone) = acted_at world at (zstep zone event)
 
-abbrev pub act_at : World → Event → Option ℕ → World × WorldAnswer
+abbrev pub act_at : WorldState → Event → Option ℕ → WorldState × WorldAnswer
 act_at world event None = (world, No NoZone)
 act_at world event (Some at) = act_in world event at (slice_get world.zones at)
 
-unfoldable pub wstep_act : World → Option Replica → Labels → Event → World × WorldAnswer
+unfoldable pub wstep_act : WorldState → Option Replica → Labels → Event → WorldState × WorldAnswer
 wstep_act world None apex event = (world, No NoReplica)
 wstep_act world (Some replica) apex event = act_at world event (position (is_zone replica.id apex) world.zones)
 
@@ -93,46 +104,46 @@ abbrev pub packet_limit : ℕ
 packet_limit = 4294967295
 
 -- a packet is sent; the first has number 1
-abbrev pub sent : World → ReplicaId → Packet → World × WorldAnswer
+abbrev pub sent : WorldState → ReplicaId → Packet → WorldState × WorldAnswer
 sent world to packet =
     if nat_le packet_limit (length world.packets) then (world, No Full)
     else (record world { packets = world.packets ++ record { to = to; packet = packet } ∷ [] }, Sent (length world.packets + 1))
 
 -- the zone of a replica with this apex
-abbrev pub zone_of : World → ReplicaId → Labels → Option Zone
+abbrev pub zone_of : WorldState → ReplicaId → Labels → Option ZoneState
 zone_of world id apex = find (is_zone id apex) world.zones
 
-abbrev pub zone_of_replica : World → Labels → Option Replica → Option Zone
+abbrev pub zone_of_replica : WorldState → Labels → Option Replica → Option ZoneState
 zone_of_replica world apex None = None
 zone_of_replica world apex (Some replica) = zone_of world replica.id apex
 
 -- the zone with this apex of the replica of a number
-unfoldable pub zone_at : World → ℕ → Labels → Option Zone
+unfoldable pub zone_at : WorldState → ℕ → Labels → Option ZoneState
 zone_at world at apex = zone_of_replica world apex (slice_get world.replicas at)
 
-abbrev pub pull_between : World → Replica → Replica → Option Zone → Option Zone → World × WorldAnswer
+abbrev pub pull_between : WorldState → Replica → Replica → Option ZoneState → Option ZoneState → WorldState × WorldAnswer
 pull_between world by of None theirs = (world, No NoZone)
 pull_between world by of (Some own) None = (world, No NoZone)
 pull_between world by of (Some own) (Some theirs) =
     if is_id by.id of.id then (world, No SelfPull) else sent world of.id (pull_of own of.id)
 
 -- a replica asks another for a zone's changes
-unfoldable pub wstep_pull : World → Option Replica → Option Replica → Labels → World × WorldAnswer
+unfoldable pub wstep_pull : WorldState → Option Replica → Option Replica → Labels → WorldState × WorldAnswer
 wstep_pull world None of apex = (world, No NoReplica)
 wstep_pull world (Some by) None apex = (world, No NoReplica)
 wstep_pull world (Some by) (Some of) apex = pull_between world by of (zone_of world by.id apex) (zone_of world of.id apex)
 
-abbrev pub answer_pull : World → ReplicaId → ℕ → Option Zone → World × WorldAnswer
+abbrev pub answer_pull : WorldState → ReplicaId → ℕ → Option ZoneState → WorldState × WorldAnswer
 answer_pull world from after None = (world, No NoZone)
 answer_pull world from after (Some zone) = sent world from (packets.Changes (changes_of zone.table zone.apex zone.id after))
 
 -- a packet comes to its receiver: one that asks is answered by another packet, changes are merged
-unfoldable pub deliver_to : World → ReplicaId → Packet → World × WorldAnswer
+unfoldable pub deliver_to : WorldState → ReplicaId → Packet → WorldState × WorldAnswer
 deliver_to world to (packets.Pull apex from after) = answer_pull world from after (zone_of world to apex)
 deliver_to world to (packets.Changes changes) =
     act_at world (zone_events.Merge changes) (position (is_zone to changes.zone) world.zones)
 
-abbrev pub deliver_post : World → Option Post → World × WorldAnswer
+abbrev pub deliver_post : WorldState → Option Post → WorldState × WorldAnswer
 deliver_post world None = (world, No NoPacket)
 deliver_post world (Some post) = deliver_to world post.to post.packet
 
@@ -143,31 +154,12 @@ post_at posts (suc before) = slice_get posts before
 
 -- The step of the world: the world and the answer after an event. Replicas are numbered from 0. A refused event changes
 -- nothing.
-unfoldable pub wstep : World → WorldEvent → World × WorldAnswer
+unfoldable pub wstep : WorldState → WorldEvent → WorldState × WorldAnswer
 wstep world (events.Replica id host) = wstep_replica world id host
 wstep world (events.Create at apex mailbox moment) =
     wstep_zone world (slice_get world.replicas at) apex (λ replica. created replica.id replica.host apex mailbox moment)
 wstep world (events.Act at apex event) = wstep_act world (slice_get world.replicas at) apex event
 wstep world (events.Join at apex) =
-    wstep_zone world (slice_get world.replicas at) apex (λ replica. joined replica.id replica.host apex)
+    wstep_zone world (slice_get world.replicas at) apex (λ replica. joined_zone replica.id replica.host apex)
 wstep world (events.Pull by of apex) = wstep_pull world (slice_get world.replicas by) (slice_get world.replicas of) apex
 wstep world (events.Deliver number) = deliver_post world (post_at world.packets number)
-
--- ---- the zone that answers a question
-
--- a zone of this replica covers a name that is under its apex
-unfoldable pub covers : ReplicaId → Labels → Zone → Bool
-covers id name zone = is_of id zone && is_under name zone.apex
-
-abbrev pub nearer : Zone → Option Zone → Option Zone
-nearer zone None = Some zone
-nearer zone (Some other) = if nat_lt (length zone.apex) (length other.apex) then Some other else Some zone
-
--- of the zones the one with the longest apex, by number of labels, the first of these
-unfoldable pub nearest : List Zone → Option Zone
-nearest [] = None
-nearest (zone ∷ zones) = nearer zone (nearest zones)
-
--- the zone of a replica that answers for a name
-unfoldable pub zone_for : World → ReplicaId → Labels → Option Zone
-zone_for world id name = nearest (filter (covers id name) world.zones)

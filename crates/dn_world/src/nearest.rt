@@ -1,45 +1,43 @@
 //! The zone of a replica that answers for a name.
 
-ghost use Rattle.std.specs.Prelude.{◌≡◌, Some, option_copied};
-ghost use Rattle.dn_world.specs.World.{covers, nearer, zone_for};
+ghost use Rattle.std.specs.Prelude.{◌≡◌, ◌&&◌};
+ghost use Rattle.dn_answer.specs.Datagram.{is_over, zone_over};
+ghost use Rattle.dn_world.specs.Datagram.{view_of, zones_of};
+ghost use Rattle.dn_world.specs.World.{is_of};
 
 use crate::world::World;
+use dn_answer::ZoneView;
 use dn_name::Name;
 use dn_stamp::ReplicaId;
 use dn_zone::Zone;
 
-// Whether a zone is the replica's, and the name under its apex.
-#[tactic(auto, unfolding(crate::specs::World::covers))]
-fn covers(zone: &Zone, id: ReplicaId, name: &Name) -> bool
-    ensures { result ≡ covers id name.now zone.now }
+// A zone as its replica shows it.
+fn view_of(zone: &Zone) -> ZoneView<'_>
+    ensures { result ≡ view_of zone.now }
 {
-    zone.id() == id && name.is_under(zone.apex())
+    ZoneView::new(zone.apex(), zone.host(), zone.table())
 }
 
-// The zone with the longer apex, the first where they are equally long.
-fn nearer<'a>(zone: &'a Zone, other: Option<&'a Zone>) -> &'a Zone
-    ensures { nearer zone.now (option_copied other.entry) ≡ Some result.now }
+// Whether a zone is the replica's, and over the name.
+fn covers(zone: &Zone, id: ReplicaId, name: &Name) -> bool
+    ensures { result ≡ (is_of id zone.now && is_over name.now (view_of zone.now)) }
 {
-    match other {
-        Some(other) if zone.apex().labels() < other.apex().labels() => other,
-        _ => zone,
-    }
+    zone.id() == id && view_of(zone).is_over(name)
 }
 
 impl World {
-    // The zone of a replica that answers for a name: of those that the name is under, the one with the longest apex.
-    #[tactic(auto, unfolding(crate::specs::World::zone_for, crate::specs::World::nearest))]
-    pub fn zone_for(&self, id: ReplicaId, name: &Name) -> Option<&Zone>
-        ensures { option_copied result ≡ zone_for self.now id name.now }
+    // Of the zones of a replica that are over a name the one with the longest name.
+    pub fn zone_over(&self, id: ReplicaId, name: &Name) -> Option<ZoneView<'_>>
+        ensures { result ≡ zone_over (zones_of self.now id) name.now }
     {
         let zones = self.zones.as_slice();
-        let mut nearest: Option<&Zone> = None;
+        let mut nearest: Option<ZoneView> = None;
         let mut at = zones.len();
         while at > 0 {
             at -= 1;
             let zone = &zones[at];
             if covers(zone, id, name) {
-                nearest = Some(nearer(zone, nearest));
+                nearest = Some(view_of(zone).nearer(nearest));
             }
         }
         nearest

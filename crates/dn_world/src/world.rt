@@ -11,6 +11,7 @@ use dn_name::Name;
 use dn_stamp::ReplicaId;
 use dn_zone::{Answer, Event, Prepared, Zone};
 use std::alloc::Global;
+use std::marker::Model;
 
 // The most replicas of a world, and the most zones of a replica.
 const MAX_REPLICAS: usize = 64;
@@ -34,10 +35,18 @@ pub struct Post {
 /// The servers of a script and their zones. A zone belongs to the replica of its identity.
 #[derive(Drop)]
 pub struct World {
-    pub replicas: List<Replica>,
-    pub zones: List<Zone>,
-    /// The packets that were sent, in order. One may be delivered any number of times, or never.
-    pub packets: List<Post>,
+    pub(crate) replicas: List<Replica>,
+    pub(crate) zones: List<Zone>,
+    // The packets that were sent, in order. One may be delivered any number of times, or never.
+    pub(crate) packets: List<Post>,
+}
+
+impl Model for World {
+    ghost use Rattle.dn_world.specs.State.{WorldState};
+
+    ghost Value = { WorldState };
+
+    ghost view = { λ it. record { replicas = it.replicas; zones = it.zones; packets = it.packets } };
 }
 
 // Whether a zone is the replica's, with this apex.
@@ -79,6 +88,13 @@ impl World {
             zones: List::new(alloc),
             packets: List::new(alloc),
         }
+    }
+
+    /// The replicas, in the order in which they came. The first has number 0.
+    pub fn replicas(&self) -> &List<Replica>
+        ensures { result.now ≡ self.now.replicas }
+    {
+        &self.replicas
     }
 
     // The zone of a replica with this apex.

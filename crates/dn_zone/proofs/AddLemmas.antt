@@ -11,12 +11,12 @@ use Rattle.dn_store.specs.declared.unit.UnitKey.TheVariants.{Node}
 use Rattle.dn_store.specs.declared.unit.UnitValue.TheVariants.{Live}
 use Rattle.dn_store.specs.Contents.{node_value, rows_at}
 use Rattle.dn_update.specs.Node.{bars, is_same_set, is_there_as, placed_row, with_added, without_aliases}
-use Rattle.dn_update.specs.Node.Added.{Adds}
+use Rattle.dn_update.specs.Node.Added.{AddsRow}
 use Rattle.dn_update.specs.Writes.{node_change, stamped, written}
 use Rattle.dn_update.proofs.CallerLemmas.{same_set_self}
 use Rattle.dn_zone.specs.declared.event.AdminDone.TheVariants.{Unchanged}
 use Rattle.dn_zone.specs.declared.event.Answer.TheVariants.{Admin}
-use Rattle.dn_zone.specs.declared.zone.Zone.{Zone}
+use Rattle.dn_zone.specs.State.{ZoneState}
 use Rattle.dn_zone.specs.Zone.{add_wanted, with_table}
 
 -- a list that has a first record
@@ -55,8 +55,8 @@ added_first row rows =
     (λ differs. placed_first row (without_aliases rows)) (λ differs. placed_first row rows)
 
 -- nothing is wanted where the set stays the same
-pub add_same : (zone : Zone) (name : Labels) (row : Record) (ticks : ℕ) (before : List Record) → before ≡ rows_at (Node (lowered name)) zone.table.0
-    → Adds None row before → with_table zone (written (add_wanted zone name row ticks) zone.id ticks zone.table) ≡ (zone, Admin Unchanged)
+pub add_same : (zone : ZoneState) (name : Labels) (row : Record) (ticks : ℕ) (before : List Record) → before ≡ rows_at (Node (lowered name)) zone.table.0
+    → AddsRow None row before → with_table zone (written (add_wanted zone name row ticks) zone.id ticks zone.table) ≡ (zone, Admin Unchanged)
 unfolding add_wanted node_change written stamped
 add_same zone name row ticks before is same = rw (← is, same) refl
 
@@ -64,8 +64,8 @@ value_of : (rows : List Record) (ticks : ℕ) → HasFirst rows → node_value r
 value_of rows ticks has = rw has.is refl
 
 -- and else the node with the records behind it
-pub add_changed : (zone : Zone) (name : Labels) (row : Record) (ticks : ℕ) (before after : List Record) → before ≡ rows_at (Node (lowered name)) zone.table.0
-    → Adds (Some after) row before → add_wanted zone name row ticks ≡ record { key = Node (lowered name); value = Live after } ∷ []
+pub add_changed : (zone : ZoneState) (name : Labels) (row : Record) (ticks : ℕ) (before after : List Record) → before ≡ rows_at (Node (lowered name)) zone.table.0
+    → AddsRow (Some after) row before → add_wanted zone name row ticks ≡ record { key = Node (lowered name); value = Live after } ∷ []
 unfolding add_wanted node_change
 add_changed zone name row ticks before after is (added, differs) =
     rw (← is, ← added, differs, value_of after ticks (subst (FirstWhere before) (sym added) (added_first row before) differs)) refl

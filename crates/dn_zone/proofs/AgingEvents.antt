@@ -10,7 +10,7 @@ use Rattle.dn_rdata.specs.Record.{made}
 use Rattle.dn_store.specs.declared.unit.Unit as units
 use Rattle.dn_store.specs.declared.unit.Write.{Write}
 use Rattle.dn_store.specs.Contents.{properties_of}
-use Rattle.dn_store.specs.Table.{TableState, change_limit, taken}
+use Rattle.dn_store.specs.Table.{TableState, change_limit, units_after}
 use Rattle.dn_store.specs.Value.{fits}
 use Rattle.dn_update.specs.Writes.{Outcome, Wanted, stamped, when_stamped, with_writes, written}
 use Rattle.dn_pass.specs.declared.pass.Pass.{Pass}
@@ -18,7 +18,7 @@ use Rattle.dn_link.specs.declared.packet.Changes.{Changes}
 use Rattle.dn_zone.specs.declared.event.AdminCmd.{AdminCmd}
 use Rattle.dn_zone.specs.declared.event.AdminCmd.TheVariants.{Add, AgingOn, AgingOff, NoRefresh, Refresh}
 use Rattle.dn_zone.specs.declared.event.Answer.{Answer}
-use Rattle.dn_zone.specs.declared.zone.Zone.{Zone}
+use Rattle.dn_zone.specs.State.{ZoneState}
 use Rattle.dn_zone.specs.Aging.{Given}
 use Rattle.dn_zone.specs.Merge.{cursor_of, winners}
 use Rattle.dn_zone.specs.Settings.{settings_of}
@@ -37,7 +37,7 @@ running_start list top pass sound running is =
     runs.start
 
 both_taken : (given : Given) (list : List units.Unit) (top : ℕ) (pass : Option Pass) (writes : List Write) → top + length writes ≤ change_limit → Both given list top pass
-    → Both given (taken list top writes) (top + length writes) pass
+    → Both given (units_after list top writes) (top + length writes) pass
 both_taken given list top pass writes within both =
     (sound_after list top pass writes within both.0, given_taken list top writes given pass both.0.units (running_start list top pass both.0) both.1)
 
@@ -65,20 +65,20 @@ unfolding written
 written_both given wanted id ticks table pass both =
     fitting_both (list_all (λ one. fits one.value) wanted) given table pass (stamped table.0 id (seconds_of ticks) wanted) _ both
 
-abbrev pub BothZone : Given → Zone → Type 0
+abbrev pub BothZone : Given → ZoneState → Type 0
 BothZone given zone = Both given zone.table.0 zone.table.1 zone.pass
 
-set_both : (given : Given) (zone : Zone) (cmd : AdminCmd) (moment : ℕ) → BothZone given zone → BothZone given (set_step zone cmd moment).0
+set_both : (given : Given) (zone : ZoneState) (cmd : AdminCmd) (moment : ℕ) → BothZone given zone → BothZone given (set_step zone cmd moment).0
 unfolding set_step
 set_both given zone cmd moment both =
     written_both given (settings_wanted (properties_of zone.table.0) (settings_of cmd (rules_of (properties_of zone.table.0)) (hour_of moment))) zone.id moment zone.table zone.pass both
 
-under_both : (under : Bool) (given : Given) (zone : Zone) (wanted : List Wanted) (moment : ℕ) (other : Answer) → BothZone given zone
-    → BothZone given (cond {A = Zone × Answer} under (with_table zone (written wanted zone.id moment zone.table)) (zone, other)).0
+under_both : (under : Bool) (given : Given) (zone : ZoneState) (wanted : List Wanted) (moment : ℕ) (other : Answer) → BothZone given zone
+    → BothZone given (cond {A = ZoneState × Answer} under (with_table zone (written wanted zone.id moment zone.table)) (zone, other)).0
 under_both true given zone wanted moment other both = written_both given wanted zone.id moment zone.table zone.pass both
 under_both false given zone wanted moment other both = both
 
-pub admin_both : (given : Given) (zone : Zone) (cmd : AdminCmd) (moment : ℕ) → BothZone given zone → BothZone given (admin_step zone cmd moment).0
+pub admin_both : (given : Given) (zone : ZoneState) (cmd : AdminCmd) (moment : ℕ) → BothZone given zone → BothZone given (admin_step zone cmd moment).0
 unfolding admin_step
 admin_both given zone (Add name ttl rtype rdata hour) moment both =
     under_both (is_under name zone.apex) given zone (add_wanted zone name (made rtype ttl hour rdata) moment) moment _ both
@@ -87,18 +87,18 @@ admin_both given zone AgingOff moment both = set_both given zone AgingOff moment
 admin_both given zone (NoRefresh hours) moment both = set_both given zone (NoRefresh hours) moment both
 admin_both given zone (Refresh hours) moment both = set_both given zone (Refresh hours) moment both
 
-merged_both : (full : Bool) (given : Given) (zone : Zone) (changes : Changes) (won : List Write) (one other : Answer)
-    → nat_lt change_limit (zone.table.1 + length won) ≡ full → BothZone given zone → BothZone given (cond {A = Zone × Answer} full (zone, one) (after_merge zone changes won, other)).0
+merged_both : (full : Bool) (given : Given) (zone : ZoneState) (changes : Changes) (won : List Write) (one other : Answer)
+    → nat_lt change_limit (zone.table.1 + length won) ≡ full → BothZone given zone → BothZone given (cond {A = ZoneState × Answer} full (zone, one) (after_merge zone changes won, other)).0
 merged_both true given zone changes won one other is both = both
 merged_both false given zone changes won one other is both =
     both_taken given zone.table.0 zone.table.1 zone.pass won (ltb-false change_limit (zone.table.1 + length won) is) both
 
-gap_both : (gap : Bool) (given : Given) (zone : Zone) (changes : Changes) (won : List Write) (answer : Answer) → BothZone given zone
-    → BothZone given (cond {A = Zone × Answer} gap (zone, answer) (merged zone changes won)).0
+gap_both : (gap : Bool) (given : Given) (zone : ZoneState) (changes : Changes) (won : List Write) (answer : Answer) → BothZone given zone
+    → BothZone given (cond {A = ZoneState × Answer} gap (zone, answer) (merged zone changes won)).0
 gap_both true given zone changes won answer both = both
 gap_both false given zone changes won answer both = merged_both (nat_lt change_limit (zone.table.1 + length won)) given zone changes won _ _ refl both
 
-pub merge_both : (given : Given) (zone : Zone) (changes : Changes) → BothZone given zone → BothZone given (merge_step zone changes).0
+pub merge_both : (given : Given) (zone : ZoneState) (changes : Changes) → BothZone given zone → BothZone given (merge_step zone changes).0
 unfolding merge_step
 merge_both given zone changes both =
     gap_both (nat_lt (cursor_of changes.supplier zone.cursors) changes.from) given zone changes (winners zone.table.0 changes.units) _ both

@@ -9,7 +9,7 @@ use Rattle.dn_store.specs.declared.unit.Unit as units
 use Rattle.dn_store.specs.declared.unit.UnitKey.TheVariants as keys
 use Rattle.dn_store.specs.declared.unit.Write.{Write}
 use Rattle.dn_store.specs.Contents.{number_of_unit, props_number, properties_of_unit, properties_of}
-use Rattle.dn_store.specs.Table.{change_limit, is_above, taken, unit_at}
+use Rattle.dn_store.specs.Table.{change_limit, is_above, units_after, unit_at}
 use Rattle.dn_store.proofs.CallerLemmas.{IsSoundList, all_of, all_taken, and_no, count_none, count_taken_old, first_no, past, props_taken, sound_taken}
 use Rattle.dn_pass.specs.declared.pass.Pass.{Pass}
 use Rattle.dn_pass.specs.Aging.{has_stale}
@@ -66,9 +66,9 @@ new_not_left rules pass top unit within more =
     and_no (not (is_above pass.after unit)) (is_old_stale rules pass unit) (new_not_old rules pass top unit within more)
 
 keeps_taken : (rules : ZoneRules) (pass : Pass) (list : List units.Unit) (top : ℕ) (writes : List Write) → pass.start ≤ top → IsSoundList list top
-    → Keeps rules pass list → Keeps rules pass (taken list top writes)
+    → Keeps rules pass list → Keeps rules pass (units_after list top writes)
 keeps_taken rules pass list top writes within sound keeps =
-    let count : count_by (is_left rules pass) (taken list top writes) ≤ count_by (is_left rules pass) list =
+    let count : count_by (is_left rules pass) (units_after list top writes) ≤ count_by (is_left rules pass) list =
     count_taken_old (is_left rules pass) (is_left rules pass) list top writes sound.ordered (λ unit more. new_not_left rules pass top unit within more)
     (all_of _ list (λ unit unwritten is. is)) in
     let before : count_by (is_left rules pass) list ≤ pass.skipped = keeps.count in
@@ -80,30 +80,30 @@ keeps_taken rules pass list top writes within sound keeps =
     }
 
 -- where the property list is an old one, it is the one from before
-pub rules_same : (list : List units.Unit) (top start : ℕ) (writes : List Write) → start ≤ top → IsSoundList list top → props_number (taken list top writes) ≤ start
-    → unit_at keys.Props (taken list top writes) ≡ unit_at keys.Props list
+pub rules_same : (list : List units.Unit) (top start : ℕ) (writes : List Write) → start ≤ top → IsSoundList list top → props_number (units_after list top writes) ≤ start
+    → unit_at keys.Props (units_after list top writes) ≡ unit_at keys.Props list
 rules_same list top start writes within sound old = props_taken list top start writes within sound.numbers sound.ordered old
 
 runs_taken : (list : List units.Unit) (top : ℕ) (pass : Pass) (writes : List Write) → IsSoundList list top → RunsSound list top pass
-    → RunsSound (taken list top writes) (top + length writes) pass
+    → RunsSound (units_after list top writes) (top + length writes) pass
 runs_taken list top pass writes sound runs =
     let start : pass.start ≤ top = runs.start in
     record {
       start = omega arith;
       kept = λ old.
           let same = rules_same list top pass.start writes start sound old in
-          let before : props_number list ≤ pass.start = subst (λ number. number ≤ pass.start) (number_same list (taken list top writes) same) old in
-          subst (λ items. Keeps (rules_of items) pass (taken list top writes)) (sym (properties_same list (taken list top writes) same))
+          let before : props_number list ≤ pass.start = subst (λ number. number ≤ pass.start) (number_same list (units_after list top writes) same) old in
+          subst (λ items. Keeps (rules_of items) pass (units_after list top writes)) (sym (properties_same list (units_after list top writes) same))
           (keeps_taken (rules_of (properties_of list)) pass list top writes start sound (runs.kept before));
     }
 
 pass_taken : (list : List units.Unit) (top : ℕ) (pass : Option Pass) (writes : List Write) → IsSoundList list top → PassSound list top pass
-    → PassSound (taken list top writes) (top + length writes) pass
+    → PassSound (units_after list top writes) (top + length writes) pass
 pass_taken list top None writes sound passing = tt
 pass_taken list top (Some pass) writes sound passing = runs_taken list top pass writes sound passing
 
 pub sound_after : (list : List units.Unit) (top : ℕ) (pass : Option Pass) (writes : List Write) → top + length writes ≤ change_limit → IsSound list top pass
-    → IsSound (taken list top writes) (top + length writes) pass
+    → IsSound (units_after list top writes) (top + length writes) pass
 sound_after list top pass writes most sound =
     record { units = sound_taken list top writes sound.units; most = most; passing = pass_taken list top pass writes sound.units sound.passing }
 

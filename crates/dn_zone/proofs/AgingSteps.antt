@@ -9,7 +9,7 @@ use Rattle.dn_stamp.specs.declared.stamp.ReplicaId.{ReplicaId}
 use Rattle.dn_store.specs.declared.unit.Unit as units
 use Rattle.dn_store.specs.declared.unit.Write.{Write}
 use Rattle.dn_store.specs.Contents.{props_number, properties_of}
-use Rattle.dn_store.specs.Table.{change_limit, is_above, taken}
+use Rattle.dn_store.specs.Table.{change_limit, is_above, units_after}
 use Rattle.dn_store.proofs.CallerLemmas.{IsSoundList, all_of, all_taken_old, all_then, and_both, and_first, and_second, count_mono, count_taken_old, is_written, length_bound, not_false, not_true, sound_taken}
 use Rattle.dn_pass.specs.declared.pass.Pass.{Pass}
 use Rattle.dn_pass.specs.Aging.{has_stale}
@@ -86,14 +86,14 @@ behind_count rules pass writes list keeps =
 
 -- the count of those that are left behind the last key, after the step's writes
 moved_count : (rules : ZoneRules) (pass : Pass) (most : ℕ) (id : ReplicaId) (list : List units.Unit) (top : ℕ) → pass.start ≤ top → IsSoundList list top → Keeps rules pass list
-    → count_by (is_left rules (pass_after pass rules id (looked_at pass.after most list))) (taken list top (sweep rules pass.moment id (looked_at pass.after most list)))
+    → count_by (is_left rules (pass_after pass rules id (looked_at pass.after most list))) (units_after list top (sweep rules pass.moment id (looked_at pass.after most list)))
     ≤ pass.skipped + count_by (is_skipped rules pass.moment) (looked_at pass.after most list)
 unfolding pass_after
 moved_count rules pass most id list top start sound keeps =
     let looked = looked_at pass.after most list in
     let writes = sweep rules pass.moment id looked in
     let next = last_key pass.after looked in
-    let after : count_by (λ unit. not (is_above next unit) && is_old_stale rules pass unit) (taken list top writes)
+    let after : count_by (λ unit. not (is_above next unit) && is_old_stale rules pass unit) (units_after list top writes)
     ≤ count_by (λ unit. not (is_above next unit) && is_unwritten rules pass writes unit) list =
     count_taken_old (λ unit. not (is_above next unit) && is_old_stale rules pass unit) (λ unit. not (is_above next unit) && is_unwritten rules pass writes unit)
     list top writes sound.ordered (λ unit more. new_not_left rules (pass_after pass rules id looked) top unit start more)
@@ -111,7 +111,7 @@ moved_count rules pass most id list top start sound keeps =
 
 moved_last : (rules : ZoneRules) (pass : Pass) (most : ℕ) (id : ReplicaId) (list : List units.Unit) (top : ℕ) → pass.start ≤ top → IsSoundList list top → Keeps rules pass list
     → AllByRecursion (λ unit. is_above (last_key pass.after (looked_at pass.after most list)) unit ≡ false → AtLast rules pass unit)
-    (taken list top (sweep rules pass.moment id (looked_at pass.after most list)))
+    (units_after list top (sweep rules pass.moment id (looked_at pass.after most list)))
 moved_last rules pass most id list top start sound keeps =
     let looked = looked_at pass.after most list in
     let writes = sweep rules pass.moment id looked in
@@ -124,7 +124,7 @@ moved_last rules pass most id list top start sound keeps =
 
 moved_keeps : (rules : ZoneRules) (pass : Pass) (most : ℕ) (id : ReplicaId) (list : List units.Unit) (top : ℕ) → pass.start ≤ top → IsSoundList list top
     → top + length (sweep rules pass.moment id (looked_at pass.after most list)) ≤ change_limit → Keeps rules pass list
-    → Keeps rules (pass_after pass rules id (looked_at pass.after most list)) (taken list top (sweep rules pass.moment id (looked_at pass.after most list)))
+    → Keeps rules (pass_after pass rules id (looked_at pass.after most list)) (units_after list top (sweep rules pass.moment id (looked_at pass.after most list)))
 unfolding pass_after
 moved_keeps rules pass most id list top start sound within keeps =
     let looked = looked_at pass.after most list in
@@ -134,14 +134,14 @@ moved_keeps rules pass most id list top start sound within keeps =
       due = keeps.due;
       last = moved_last rules pass most id list top start sound keeps;
       count =
-          within_raised pass.skipped (count_by (is_skipped rules pass.moment) looked) (count_by (is_left rules next) (taken list top writes))
+          within_raised pass.skipped (count_by (is_skipped rules pass.moment) looked) (count_by (is_left rules next) (units_after list top writes))
           (moved_count rules pass most id list top start sound keeps)
-          (within_all (is_left rules next) (taken list top writes) (top + length writes) change_limit (sound_taken list top writes sound) within);
+          (within_all (is_left rules next) (units_after list top writes) (top + length writes) change_limit (sound_taken list top writes sound) within);
     }
 
 pub runs_stepped : (list : List units.Unit) (top : ℕ) (pass : Pass) (most : ℕ) (id : ReplicaId) → IsSoundList list top → RunsSound list top pass → props_number list ≤ pass.start
     → top + length (sweep (rules_of (properties_of list)) pass.moment id (looked_at pass.after most list)) ≤ change_limit
-    → RunsSound (taken list top (sweep (rules_of (properties_of list)) pass.moment id (looked_at pass.after most list)))
+    → RunsSound (units_after list top (sweep (rules_of (properties_of list)) pass.moment id (looked_at pass.after most list)))
     (top + length (sweep (rules_of (properties_of list)) pass.moment id (looked_at pass.after most list)))
     (pass_after pass (rules_of (properties_of list)) id (looked_at pass.after most list))
 unfolding pass_after
@@ -153,7 +153,7 @@ runs_stepped list top pass most id sound runs old within =
     record {
       start = omega arith;
       kept = λ later.
-          subst (λ items. Keeps (rules_of items) (pass_after pass rules id looked) (taken list top writes))
-          (sym (properties_same list (taken list top writes) (rules_same list top pass.start writes start sound later)))
+          subst (λ items. Keeps (rules_of items) (pass_after pass rules id looked) (units_after list top writes))
+          (sym (properties_same list (units_after list top writes) (rules_same list top pass.start writes start sound later)))
           (moved_keeps rules pass most id list top start sound within (runs.kept old));
     }

@@ -5,6 +5,7 @@ pub mod AgingSound
 pub mod AgingSteps
 pub mod CallerLemmas
 pub mod CreationLemmas
+pub mod Identity
 pub mod JoinLemmas
 pub mod Keeping
 pub mod OwnWrites

@@ -9,7 +9,7 @@ use Rattle.dn_stamp.specs.declared.stamp.ReplicaId.{ReplicaId}
 use Rattle.dn_store.specs.declared.unit.Unit as units
 use Rattle.dn_store.specs.declared.unit.Write.{Write}
 use Rattle.dn_store.specs.Contents.{rows_in, props_number, properties_of}
-use Rattle.dn_store.specs.Table.{IsNumber, change_limit, is_above, numbered, placed, taken}
+use Rattle.dn_store.specs.Table.{IsNumber, change_limit, is_above, numbered, placed, units_after}
 use Rattle.dn_store.proofs.CallerLemmas.{IsSoundList, all_both, all_of, all_placed, all_taken, all_taken_old, all_then, and_both, and_first, and_second, count_mono, count_taken_old, either, is_written, not_false, sound_taken}
 use Rattle.dn_pass.specs.declared.pass.Pass.{Pass}
 use Rattle.dn_pass.specs.Aging.{has_stale}
@@ -44,17 +44,17 @@ none_sound list top (Some pass) =
 -- ---- writes that no step made
 
 fresh_taken : (list : List units.Unit) (top : ℕ) (writes : List Write) (given : Given) (pass : Pass) → pass.start ≤ top → IsSoundList list top
-    → ((number : ℕ) → given number ≡ true → number ≤ top) → PassFresh list given (Some pass) → PassFresh (taken list top writes) given (Some pass)
+    → ((number : ℕ) → given number ≡ true → number ≤ top) → PassFresh list given (Some pass) → PassFresh (units_after list top writes) given (Some pass)
 fresh_taken list top writes given pass start sound within fresh old =
     let same = rules_same list top pass.start writes start sound old in
-    let before : props_number list ≤ pass.start = subst (λ number. number ≤ pass.start) (number_same list (taken list top writes) same) old in
-    subst (λ items. AllByRecursion (FreshWhere given (rules_of items) pass.moment) (taken list top writes)) (sym (properties_same list (taken list top writes) same))
+    let before : props_number list ≤ pass.start = subst (λ number. number ≤ pass.start) (number_same list (units_after list top writes) same) old in
+    subst (λ items. AllByRecursion (FreshWhere given (rules_of items) pass.moment) (units_after list top writes)) (sym (properties_same list (units_after list top writes) same))
     (all_taken (FreshWhere given (rules_of (properties_of list)) pass.moment) list top writes
     (λ unit more is. let most : unit.usn ≤ top = within unit.usn is in absurd (omega arith)) (fresh before))
 
 -- the same, whether a pass runs or not
 pub given_taken : (list : List units.Unit) (top : ℕ) (writes : List Write) (given : Given) (pass : Option Pass) → IsSoundList list top
-    → ((running : Pass) → pass ≡ Some running → running.start ≤ top) → GivenSound list top pass given → GivenSound (taken list top writes) (top + length writes) pass given
+    → ((running : Pass) → pass ≡ Some running → running.start ≤ top) → GivenSound list top pass given → GivenSound (units_after list top writes) (top + length writes) pass given
 given_taken list top writes given None sound start fresh =
     record { within = λ number is. let most : number ≤ top = fresh.within number is in omega arith; fresh = tt }
 given_taken list top writes given (Some pass) sound start fresh =
@@ -67,7 +67,7 @@ given_taken list top writes given (Some pass) sound start fresh =
 
 -- what each write brings under any number, and each unit from before has, each unit behind the writes has
 all_brought : (P : units.Unit → Type 0) (list : List units.Unit) (top : ℕ) (writes : List Write) → AllByRecursion (λ write. (number : ℕ) → P (numbered number write)) writes
-    → AllByRecursion P list → AllByRecursion P (taken list top writes)
+    → AllByRecursion P list → AllByRecursion P (units_after list top writes)
 all_brought P list top [] brings all = all
 all_brought P list top (write ∷ writes) brings all =
     all_brought P (placed (numbered (top + 1) write) list) (top + 1) writes brings.1 (all_placed P (numbered (top + 1) write) list (brings.0 (top + 1)) all)
@@ -84,7 +84,7 @@ old_given given top after number within is =
 
 pub step_fresh : (rules : ZoneRules) (ticks : ℕ) (id : ReplicaId) (looked list : List units.Unit) (top after : ℕ) (given : Given)
     → AllByRecursion (λ unit. IsNumber top unit.usn) list → AllByRecursion (FreshWhere given rules ticks) list
-    → AllByRecursion (FreshWhere (also_between given top after) rules ticks) (taken list top (sweep rules ticks id looked))
+    → AllByRecursion (FreshWhere (also_between given top after) rules ticks) (units_after list top (sweep rules ticks id looked))
 unfolding has_stale
 step_fresh rules ticks id looked list top after given numbers fresh =
     all_brought (FreshWhere (also_between given top after) rules ticks) list top (sweep rules ticks id looked)
@@ -103,7 +103,7 @@ step_within given top after more within number is =
 -- ---- what a finished pass leaves
 
 old_last : (rules : ZoneRules) (pass : Pass) (most : ℕ) (id : ReplicaId) (list : List units.Unit) (top : ℕ) → pass.start ≤ top → IsSoundList list top → Keeps rules pass list
-    → is_last_step pass.after most list ≡ true → AllByRecursion (AtLast rules pass) (taken list top (sweep rules pass.moment id (looked_at pass.after most list)))
+    → is_last_step pass.after most list ≡ true → AllByRecursion (AtLast rules pass) (units_after list top (sweep rules pass.moment id (looked_at pass.after most list)))
 old_last rules pass most id list top start sound keeps last =
     let looked = looked_at pass.after most list in
     let writes = sweep rules pass.moment id looked in
@@ -113,12 +113,12 @@ old_last rules pass most id list top start sound keeps last =
 
 old_count : (rules : ZoneRules) (pass : Pass) (most : ℕ) (id : ReplicaId) (list : List units.Unit) (top : ℕ) → pass.start ≤ top → IsSoundList list top → Keeps rules pass list
     → is_last_step pass.after most list ≡ true
-    → count_by (is_old_stale rules pass) (taken list top (sweep rules pass.moment id (looked_at pass.after most list)))
+    → count_by (is_old_stale rules pass) (units_after list top (sweep rules pass.moment id (looked_at pass.after most list)))
     ≤ pass.skipped + count_by (is_skipped rules pass.moment) (looked_at pass.after most list)
 old_count rules pass most id list top start sound keeps last =
     let looked = looked_at pass.after most list in
     let writes = sweep rules pass.moment id looked in
-    let after : count_by (is_old_stale rules pass) (taken list top writes) ≤ count_by (is_unwritten rules pass writes) list =
+    let after : count_by (is_old_stale rules pass) (units_after list top writes) ≤ count_by (is_unwritten rules pass writes) list =
     count_taken_old (is_old_stale rules pass) (is_unwritten rules pass writes) list top writes sound.ordered
     (λ unit more. new_not_old rules pass top unit start more)
     (all_of (λ unit. is_written writes unit.key ≡ false → is_old_stale rules pass unit ≡ true → is_unwritten rules pass writes unit ≡ true) list
@@ -141,13 +141,13 @@ untouched_old rules pass given unit fresh untouched stale =
 pub leaves_none : (rules : ZoneRules) (pass : Pass) (most : ℕ) (id : ReplicaId) (list : List units.Unit) (top : ℕ) (given : Given) → pass.start ≤ top → IsSoundList list top
     → Keeps rules pass list → is_last_step pass.after most list ≡ true
     → top + length (sweep rules pass.moment id (looked_at pass.after most list)) ≤ change_limit
-    → AllByRecursion (FreshWhere given rules pass.moment) (taken list top (sweep rules pass.moment id (looked_at pass.after most list)))
-    → LeavesNone rules pass given (taken list top (sweep rules pass.moment id (looked_at pass.after most list))) (pass_after pass rules id (looked_at pass.after most list)).skipped
+    → AllByRecursion (FreshWhere given rules pass.moment) (units_after list top (sweep rules pass.moment id (looked_at pass.after most list)))
+    → LeavesNone rules pass given (units_after list top (sweep rules pass.moment id (looked_at pass.after most list))) (pass_after pass rules id (looked_at pass.after most list)).skipped
 unfolding pass_after
 leaves_none rules pass most id list top given start sound keeps last within fresh =
     let looked = looked_at pass.after most list in
     let writes = sweep rules pass.moment id looked in
-    let after = taken list top writes in
+    let after = units_after list top writes in
     let fewer : count_by (λ unit. is_untouched given pass unit && has_stale rules pass.moment unit) after ≤ count_by (is_old_stale rules pass) after =
     count_mono (λ unit. is_untouched given pass unit && has_stale rules pass.moment unit) (is_old_stale rules pass) after
     (all_then (FreshWhere given rules pass.moment)

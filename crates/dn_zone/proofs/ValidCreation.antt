@@ -21,7 +21,7 @@ use Rattle.dn_store.specs.Table.{IsTable}
 use Rattle.dn_store.specs.Valid.{HasData, IsValidWrite}
 use Rattle.dn_store.specs.Value.{fits, is_lower, row_ok, row_size, rows_grow, soas, unit_ok, value_limit, value_size}
 use Rattle.dn_store.proofs.CallerLemmas.{lower_lowered, name_lowered, table_taken, valid_taken}
-use Rattle.dn_zone.specs.Creation.{created, first_numbers, first_properties, first_rows, first_writes, joined}
+use Rattle.dn_zone.specs.Creation.{created, first_numbers, first_properties, first_rows, first_writes, joined_zone}
 use Rattle.dn_zone.specs.Settings.{property}
 use Rattle.dn_zone.specs.Valid.{IsValidZone}
 use Rattle.dn_zone.proofs.CreationLemmas.{first_fit}
@@ -142,7 +142,7 @@ created_valid id host apex mailbox ticks named zone_named boxed =
       cursors = tt;
     }
 
-pub joined_valid : (id : ReplicaId) (host apex : Labels) → IsName host → IsName apex → IsValidZone (joined id host apex)
-unfolding joined
+pub joined_valid : (id : ReplicaId) (host apex : Labels) → IsName host → IsName apex → IsValidZone (joined_zone id host apex)
+unfolding joined_zone
 joined_valid id host apex named zone_named =
     record { host = named; apex = name_lowered apex zone_named; lower = lower_lowered apex; table = empty_table; units = tt; cursors = tt }

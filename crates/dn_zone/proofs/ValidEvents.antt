@@ -37,7 +37,7 @@ use Rattle.dn_zone.specs.declared.event.AdminCmd.TheVariants.{Add, AgingOn, Agin
 use Rattle.dn_zone.specs.declared.event.Answer.{Answer}
 use Rattle.dn_zone.specs.declared.event.Event.{Event}
 use Rattle.dn_zone.specs.declared.event.Event.TheVariants as events
-use Rattle.dn_zone.specs.declared.zone.Zone.{Zone}
+use Rattle.dn_zone.specs.State.{ZoneState}
 use Rattle.dn_zone.specs.Merge.{changes_of, cursor_of, winners, wins, with_cursor}
 use Rattle.dn_zone.specs.Settings.{settings_of}
 use Rattle.dn_zone.specs.Valid.{IsProperCommand, IsValidZone, Meets}
@@ -52,13 +52,13 @@ IsValidTable apex table = IsTable table.0 table.1 × AllByRecursion (IsValidUnit
 abbrev AreCursors : List (ReplicaId × ℕ) → Type 0
 AreCursors cursors = AllByRecursion (λ entry. entry.1 ≤ change_limit) cursors
 
-valid_with : (zone : Zone) (table : TableState) (cursors : List (ReplicaId × ℕ)) (pass : Option Pass) → IsValidZone zone → IsValidTable zone.apex table → AreCursors cursors
+valid_with : (zone : ZoneState) (table : TableState) (cursors : List (ReplicaId × ℕ)) (pass : Option Pass) → IsValidZone zone → IsValidTable zone.apex table → AreCursors cursors
     → IsValidZone (record zone { table = table; cursors = cursors; pass = pass })
 valid_with zone table cursors pass valid units are =
     record { host = valid.host; apex = valid.apex; lower = valid.lower; table = units.0; units = units.1; cursors = are }
 
 -- writes that are valid, where the change count stays within its limit
-table_with : (zone : Zone) (writes : List Write) → IsValidZone zone → AllByRecursion (IsValidWrite zone.apex) writes → zone.table.1 + length writes ≤ change_limit
+table_with : (zone : ZoneState) (writes : List Write) → IsValidZone zone → AllByRecursion (IsValidWrite zone.apex) writes → zone.table.1 + length writes ≤ change_limit
     → IsValidTable zone.apex (with_writes writes zone.table)
 table_with zone writes valid are within = (
   table_taken zone.table.0 zone.table.1 writes within (all_then (IsValidWrite zone.apex) (λ write. IsTrue (fits write.value)) writes (λ write is. is.fitting) are) valid.table,
@@ -67,33 +67,33 @@ table_with zone writes valid are within = (
 
 -- ---- commands
 
-written_valid : (zone : Zone) (wanted : List Wanted) (moment : ℕ) → IsValidZone zone → AllByRecursion (IsAllowed zone.apex) wanted
+written_valid : (zone : ZoneState) (wanted : List Wanted) (moment : ℕ) → IsValidZone zone → AllByRecursion (IsAllowed zone.apex) wanted
     → IsValidZone (with_table zone (written wanted zone.id moment zone.table)).0
 written_valid zone wanted moment valid allowed =
     valid_with zone (written wanted zone.id moment zone.table).0 zone.cursors zone.pass valid
     (written_keeps zone.apex wanted zone.id moment zone.table allowed valid.table valid.units) valid.cursors
 
-set_valid : (zone : Zone) (cmd : AdminCmd) (moment : ℕ) → IsValidZone zone → IsValidZone (set_step zone cmd moment).0
+set_valid : (zone : ZoneState) (cmd : AdminCmd) (moment : ℕ) → IsValidZone zone → IsValidZone (set_step zone cmd moment).0
 unfolding set_step
 set_valid zone cmd moment valid =
     let list : List Property = properties_of zone.table.0 in
     let settings = settings_of cmd (rules_of list) (hour_of moment) in
     written_valid zone (settings_wanted list settings) moment valid (settings_allowed zone.apex list settings (properties_grow zone.apex zone.table.0 valid.units))
 
-wanted_allowed : (zone : Zone) (name : Labels) (row : Record) (moment : ℕ) → IsValidZone zone → is_under name zone.apex ≡ true → answerable row.rtype ≡ true → nat_eq row.rtype SOA ≡ false
+wanted_allowed : (zone : ZoneState) (name : Labels) (row : Record) (moment : ℕ) → IsValidZone zone → is_under name zone.apex ≡ true → answerable row.rtype ≡ true → nat_eq row.rtype SOA ≡ false
     → IsData row.rtype row.rdata → IsName name → AllByRecursion (IsAllowed zone.apex) (add_wanted zone name row moment)
 unfolding add_wanted
 wanted_allowed zone name row moment valid under known other has named =
     add_allowed zone.apex name row zone.table.0 moment under known other has named valid.units
 
-add_valid : (under : Bool) (zone : Zone) (name : Labels) (row : Record) (moment : ℕ) (answer : Answer) → is_under name zone.apex ≡ under → IsValidZone zone → answerable row.rtype ≡ true
+add_valid : (under : Bool) (zone : ZoneState) (name : Labels) (row : Record) (moment : ℕ) (answer : Answer) → is_under name zone.apex ≡ under → IsValidZone zone → answerable row.rtype ≡ true
     → nat_eq row.rtype SOA ≡ false → IsData row.rtype row.rdata → IsName name
-    → IsValidZone (cond {A = Zone × Answer} under (with_table zone (written (add_wanted zone name row moment) zone.id moment zone.table)) (zone, answer)).0
+    → IsValidZone (cond {A = ZoneState × Answer} under (with_table zone (written (add_wanted zone name row moment) zone.id moment zone.table)) (zone, answer)).0
 add_valid true zone name row moment answer is valid known other has named =
     written_valid zone (add_wanted zone name row moment) moment valid (wanted_allowed zone name row moment valid is known other has named)
 add_valid false zone name row moment answer is valid known other has named = valid
 
-admin_valid : (zone : Zone) (cmd : AdminCmd) (moment : ℕ) → IsValidZone zone → IsProperCommand cmd → IsValidZone (admin_step zone cmd moment).0
+admin_valid : (zone : ZoneState) (cmd : AdminCmd) (moment : ℕ) → IsValidZone zone → IsProperCommand cmd → IsValidZone (admin_step zone cmd moment).0
 unfolding admin_step
 admin_valid zone (Add name ttl rtype rdata hour) moment valid proper =
     add_valid (is_under name zone.apex) zone name (made rtype ttl hour rdata) moment _ refl valid proper.1 proper.2 proper.3 proper.0
@@ -104,50 +104,50 @@ admin_valid zone (Refresh hours) moment valid proper = set_valid zone (Refresh h
 
 -- ---- passes
 
-pass_valid : (zone : Zone) (pass : Option Pass) → IsValidZone zone → IsValidZone (with_pass zone pass)
+pass_valid : (zone : ZoneState) (pass : Option Pass) → IsValidZone zone → IsValidZone (with_pass zone pass)
 pass_valid zone pass valid = valid_with zone zone.table zone.cursors pass valid (valid.table, valid.units) valid.cursors
 
-begun_valid : (zone : Zone) (moment : ℕ) (found : Option Pass) → IsValidZone zone → IsValidZone (begin_at zone moment found).0
+begun_valid : (zone : ZoneState) (moment : ℕ) (found : Option Pass) → IsValidZone zone → IsValidZone (begin_at zone moment found).0
 begun_valid zone moment None valid = valid
 begun_valid zone moment (Some pass) valid = pass_valid zone (Some pass) valid
 
-begin_by : (running : Option Pass) (zone : Zone) (moment : ℕ) → IsValidZone zone → IsValidZone (begin_unless running zone moment).0
+begin_by : (running : Option Pass) (zone : ZoneState) (moment : ℕ) → IsValidZone zone → IsValidZone (begin_unless running zone moment).0
 begin_by None zone moment valid = begun_valid zone moment (new_pass_if_due zone.table moment) valid
 begin_by (Some pass) zone moment valid = valid
 
-begin_valid : (zone : Zone) (moment : ℕ) → IsValidZone zone → IsValidZone (begin_step zone moment).0
+begin_valid : (zone : ZoneState) (moment : ℕ) → IsValidZone zone → IsValidZone (begin_step zone moment).0
 unfolding begin_step
 begin_valid zone moment valid = begin_by zone.pass zone moment valid
 
-swept_zone_valid : (full : Bool) (zone : Zone) (writes : List Write) (pass : Option Pass) (one other : Answer) → nat_lt change_limit (zone.table.1 + length writes) ≡ full → IsValidZone zone
-    → AllByRecursion (IsValidWrite zone.apex) writes → IsValidZone (cond {A = Zone × Answer} full (zone, one) (swept_zone zone writes pass, other)).0
+swept_zone_valid : (full : Bool) (zone : ZoneState) (writes : List Write) (pass : Option Pass) (one other : Answer) → nat_lt change_limit (zone.table.1 + length writes) ≡ full → IsValidZone zone
+    → AllByRecursion (IsValidWrite zone.apex) writes → IsValidZone (cond {A = ZoneState × Answer} full (zone, one) (swept_zone zone writes pass, other)).0
 swept_zone_valid true zone writes pass one other is valid are = valid
 swept_zone_valid false zone writes pass one other is valid are =
     valid_with zone (with_writes writes zone.table) zone.cursors pass valid (table_with zone writes valid are (ltb-false change_limit (zone.table.1 + length writes) is)) valid.cursors
 
 -- what a step writes is valid
-sweep_valid : (zone : Zone) (pass : Pass) (most : ℕ) → IsValidZone zone
+sweep_valid : (zone : ZoneState) (pass : Pass) (most : ℕ) → IsValidZone zone
     → AllByRecursion (IsValidWrite zone.apex) (sweep (rules_of (properties_of zone.table.0)) pass.moment zone.id (looked_at pass.after most zone.table.0))
 sweep_valid zone pass most valid =
     let looked : List units.Unit = looked_at pass.after most zone.table.0 in
     swept_valid zone.apex (rules_of (properties_of zone.table.0)) pass.moment zone.id looked (looked_valid zone.apex pass.after most zone.table.0 valid.units)
 
-planned_valid : (last : Bool) (zone : Zone) (writes : List Write) (pass : Pass) → IsValidZone zone → AllByRecursion (IsValidWrite zone.apex) writes
+planned_valid : (last : Bool) (zone : ZoneState) (writes : List Write) (pass : Pass) → IsValidZone zone → AllByRecursion (IsValidWrite zone.apex) writes
     → IsValidZone (step_by zone (plan_for last writes pass)).0
 planned_valid true zone writes pass valid are = swept_zone_valid (nat_lt change_limit (zone.table.1 + length writes)) zone writes None _ _ refl valid are
 planned_valid false zone writes pass valid are = swept_zone_valid (nat_lt change_limit (zone.table.1 + length writes)) zone writes (Some pass) _ _ refl valid are
 
-void_valid : (void : Bool) (zone : Zone) (pass : Pass) (most : ℕ) → IsValidZone zone
+void_valid : (void : Bool) (zone : ZoneState) (pass : Pass) (most : ℕ) → IsValidZone zone
     → IsValidZone (step_by zone (cond {A = StepPlan} void (plans.Void (props_number zone.table.0)) (planned zone.table.0 pass most zone.id (rules_of (properties_of zone.table.0))))).0
 void_valid true zone pass most valid = pass_valid zone None valid
 void_valid false zone pass most valid = planned_valid (is_last_step pass.after most zone.table.0) zone _ _ valid (sweep_valid zone pass most valid)
 
-step_by_pass : (running : Option Pass) (zone : Zone) (most : ℕ) → IsValidZone zone → IsValidZone (step_of running zone most).0
+step_by_pass : (running : Option Pass) (zone : ZoneState) (most : ℕ) → IsValidZone zone → IsValidZone (step_of running zone most).0
 unfolding step_plan
 step_by_pass None zone most valid = valid
 step_by_pass (Some pass) zone most valid = void_valid (nat_lt pass.start (props_number zone.table.0)) zone pass most valid
 
-step_valid : (zone : Zone) (most : ℕ) → IsValidZone zone → IsValidZone (pass_step zone most).0
+step_valid : (zone : ZoneState) (most : ℕ) → IsValidZone zone → IsValidZone (pass_step zone most).0
 unfolding pass_step
 step_valid zone most valid = step_by_pass zone.pass zone most valid
 
@@ -168,17 +168,17 @@ found_within [] supplier are = omega arith
 found_within (entry ∷ cursors) supplier are =
     cond_both (is_id supplier entry.0) (Some entry.1) (lookup (is_id supplier) cursors) (λ found. unwrap_or found 0 ≤ change_limit) (λ is. are.0) (λ is. found_within cursors supplier are.1)
 
-cursor_within : (zone : Zone) (supplier : ReplicaId) → IsValidZone zone → cursor_of supplier zone.cursors ≤ change_limit
+cursor_within : (zone : ZoneState) (supplier : ReplicaId) → IsValidZone zone → cursor_of supplier zone.cursors ≤ change_limit
 unfolding cursor_of
 cursor_within zone supplier valid = found_within zone.cursors supplier valid.cursors
 
-winners_valid : (zone : Zone) (changes : Changes) → IsValidRun changes → changes.zone ≡ zone.apex → AllByRecursion (IsValidWrite zone.apex) (winners zone.table.0 changes.units)
+winners_valid : (zone : ZoneState) (changes : Changes) → IsValidRun changes → changes.zone ≡ zone.apex → AllByRecursion (IsValidWrite zone.apex) (winners zone.table.0 changes.units)
 unfolding winners
 winners_valid zone changes run is =
     all_filter (IsValidWrite zone.apex) (wins zone.table.0) changes.units (subst (λ (apex : Labels). AllByRecursion (IsValidWrite apex) changes.units) is run.units)
 
-joined_in : (full : Bool) (zone : Zone) (changes : Changes) (won : List Write) (one other : Answer) → nat_lt change_limit (zone.table.1 + length won) ≡ full → IsValidZone zone
-    → changes.to ≤ change_limit → AllByRecursion (IsValidWrite zone.apex) won → IsValidZone (cond {A = Zone × Answer} full (zone, one) (after_merge zone changes won, other)).0
+joined_in : (full : Bool) (zone : ZoneState) (changes : Changes) (won : List Write) (one other : Answer) → nat_lt change_limit (zone.table.1 + length won) ≡ full → IsValidZone zone
+    → changes.to ≤ change_limit → AllByRecursion (IsValidWrite zone.apex) won → IsValidZone (cond {A = ZoneState × Answer} full (zone, one) (after_merge zone changes won, other)).0
 joined_in true zone changes won one other is valid most are = valid
 joined_in false zone changes won one other is valid most are =
     let seen : ℕ = max (cursor_of changes.supplier zone.cursors) changes.to in
@@ -186,20 +186,20 @@ joined_in false zone changes won one other is valid most are =
     (table_with zone won valid are (ltb-false change_limit (zone.table.1 + length won) is))
     (cursors_with zone.cursors changes.supplier seen valid.cursors (max-le (cursor_within zone changes.supplier valid) most))
 
-gap_valid : (gap : Bool) (zone : Zone) (changes : Changes) (answer : Answer) → IsValidZone zone → IsValidRun changes → changes.zone ≡ zone.apex
-    → IsValidZone (cond {A = Zone × Answer} gap (zone, answer) (merged zone changes (winners zone.table.0 changes.units))).0
+gap_valid : (gap : Bool) (zone : ZoneState) (changes : Changes) (answer : Answer) → IsValidZone zone → IsValidRun changes → changes.zone ≡ zone.apex
+    → IsValidZone (cond {A = ZoneState × Answer} gap (zone, answer) (merged zone changes (winners zone.table.0 changes.units))).0
 gap_valid true zone changes answer valid run is = valid
 gap_valid false zone changes answer valid run is =
     let won : List Write = winners zone.table.0 changes.units in
     joined_in (nat_lt change_limit (zone.table.1 + length won)) zone changes won _ _ refl valid run.most (winners_valid zone changes run is)
 
-merge_valid : (zone : Zone) (changes : Changes) → IsValidZone zone → IsValidRun changes → changes.zone ≡ zone.apex → IsValidZone (merge_step zone changes).0
+merge_valid : (zone : ZoneState) (changes : Changes) → IsValidZone zone → IsValidRun changes → changes.zone ≡ zone.apex → IsValidZone (merge_step zone changes).0
 unfolding merge_step
 merge_valid zone changes valid run is = gap_valid (nat_lt (cursor_of changes.supplier zone.cursors) changes.from) zone changes _ valid run is
 
 -- ---- every event
 
-pub event_valid : (zone : Zone) (event : Event) → IsValidZone zone → Meets zone event → IsValidZone (zstep zone event).0
+pub event_valid : (zone : ZoneState) (event : Event) → IsValidZone zone → Meets zone event → IsValidZone (zstep zone event).0
 unfolding zstep
 event_valid zone (events.Admin cmd moment) valid meets = admin_valid zone cmd moment valid meets
 event_valid zone (events.Begin moment) valid meets = begin_valid zone moment valid
@@ -208,7 +208,7 @@ event_valid zone (events.Merge changes) valid meets = merge_valid zone changes v
 
 -- ---- what is sent and asked for
 
-pub changes_valid : (zone : Zone) (after : ℕ) → IsValidZone zone → IsValidRun (changes_of zone.table zone.apex zone.id after)
+pub changes_valid : (zone : ZoneState) (after : ℕ) → IsValidZone zone → IsValidRun (changes_of zone.table zone.apex zone.id after)
 unfolding changes_of
 changes_valid zone after valid =
     let list : List units.Unit = zone.table.0 in
@@ -227,5 +227,5 @@ changes_valid zone after valid =
       most = omega (arith, order.1, most);
     }
 
-pub pull_valid : (zone : Zone) (supplier : ReplicaId) → IsValidZone zone → IsValidPull zone.apex (cursor_of supplier zone.cursors)
+pub pull_valid : (zone : ZoneState) (supplier : ReplicaId) → IsValidZone zone → IsValidPull zone.apex (cursor_of supplier zone.cursors)
 pull_valid zone supplier valid = record { name = valid.apex; lower = valid.lower; most = cursor_within zone supplier valid }

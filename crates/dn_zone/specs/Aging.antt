@@ -14,11 +14,11 @@ use Rattle.dn_pass.specs.Pass.{is_at_last}
 use Rattle.dn_zone.specs.declared.event.Answer.{Answer}
 use Rattle.dn_zone.specs.declared.event.Event.{Event}
 use Rattle.dn_zone.specs.declared.event.Event.TheVariants as events
-use Rattle.dn_zone.specs.declared.zone.Zone.{Zone}
+use Rattle.dn_zone.specs.State.{ZoneState}
 use Rattle.dn_zone.specs.Outcome.{OfVoid, WhereOver, outcome_of}
 use Rattle.dn_zone.specs.Zone.{zstep}
 
-abbrev pub rules_at : Zone → ZoneRules
+abbrev pub rules_at : ZoneState → ZoneRules
 rules_at zone = rules_of (properties_of zone.table.0)
 
 -- the numbers of the changes that the steps of the running pass made
@@ -36,7 +36,7 @@ given_at_begin given None = none_given
 given_at_begin given (Some pass) = given
 
 -- The same after an event. A pass that begins has made none.
-abbrev pub given_behind : Given → Zone → Event → Given
+abbrev pub given_behind : Given → ZoneState → Event → Given
 given_behind given zone (events.Admin cmd moment) = given
 given_behind given zone (events.Begin moment) = given_at_begin given zone.pass
 given_behind given zone (events.Step most) = also_between given zone.table.1 (zstep zone (events.Step most)).0.table.1
@@ -54,22 +54,22 @@ pub record LeavesNone (rules : ZoneRules) (pass : Pass) (given : Given) (list : 
 
 -- A step of a running pass: the zone is due at the pass's hour, stale records alone go, and where the pass finished none is
 -- left on what nothing else has touched.
-pub record StepAges (zone : Zone) (pass : Pass) (given : Given) (after : Zone × Answer) : Type 0 where
+pub record StepAges (zone : ZoneState) (pass : Pass) (given : Given) (after : ZoneState × Answer) : Type 0 where
   pub due : is_due (rules_at zone) (hour_of pass.moment) ≡ true
   pub rows : TakesStaleAlone (rules_at zone) pass.moment zone.table.0 after.0.table.0
   pub finished : WhereOver (outcome_of after.1) (LeavesNone (rules_at zone) pass given after.0.table.0)
 
 -- No unit changes, so no record at any key does.
-abbrev pub LeavesUnits : Zone → Zone × Answer → Type 0
+abbrev pub LeavesUnits : ZoneState → ZoneState × Answer → Type 0
 LeavesUnits zone after = after.0.table ≡ zone.table
 
 -- A step: one that is idle, since no pass runs, or that gives a void pass up, leaves each unit as it is.
-abbrev pub StepOf : Option Pass → Zone → Given → Zone × Answer → Type 0
+abbrev pub StepOf : Option Pass → ZoneState → Given → ZoneState × Answer → Type 0
 StepOf None zone given after = LeavesUnits zone after
 StepOf (Some pass) zone given after = OfVoid (outcome_of after.1) (LeavesUnits zone after) (StepAges zone pass given after)
 
 -- One event. A pass that begins, or doesn't, leaves each unit as it is.
-abbrev pub EventAges : Zone → Given → Event → Type 0
+abbrev pub EventAges : ZoneState → Given → Event → Type 0
 EventAges zone given (events.Admin cmd moment) = Unit {0}
 EventAges zone given (events.Begin moment) = LeavesUnits zone (zstep zone (events.Begin moment))
 EventAges zone given (events.Step most) =
@@ -77,6 +77,6 @@ EventAges zone given (events.Step most) =
 EventAges zone given (events.Merge changes) = Unit {0}
 
 -- a list of events, each in the state behind those before it
-abbrev pub Ages : Zone → Given → List Event → Type 0
+abbrev pub Ages : ZoneState → Given → List Event → Type 0
 Ages zone given [] = Unit {0}
 Ages zone given (event ∷ rest) = EventAges zone given event × Ages (zstep zone event).0 (given_behind given zone event) rest

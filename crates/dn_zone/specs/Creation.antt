@@ -13,7 +13,7 @@ use Rattle.dn_store.specs.declared.unit.UnitValue.TheVariants.{Live}
 use Rattle.dn_store.specs.declared.unit.UnitValue.TheVariants as values
 use Rattle.dn_store.specs.declared.unit.Write.{Write}
 use Rattle.dn_update.specs.Writes.{with_writes}
-use Rattle.dn_zone.specs.declared.zone.Zone.{Zone}
+use Rattle.dn_zone.specs.State.{ZoneState}
 use Rattle.dn_zone.specs.Settings.{property}
 
 -- the properties of a new zone: type primary, updates allowed, both intervals 168 hours, aging off
@@ -44,10 +44,10 @@ first_writes id host apex mailbox ticks =
     ∷ record { key = keys.Node (lowered apex); stamp = stamp; value = Live (first_rows host mailbox) }
     ∷ []
 
-unfoldable pub created : ReplicaId → Labels → Labels → Labels → ℕ → Zone
+unfoldable pub created : ReplicaId → Labels → Labels → Labels → ℕ → ZoneState
 created id host apex mailbox ticks =
     record { id = id; host = host; apex = lowered apex; table = with_writes (first_writes id host apex mailbox ticks) ([], 0); cursors = []; pass = None }
 
 -- a zone that is copied from another replica: nothing is here yet
-unfoldable pub joined : ReplicaId → Labels → Labels → Zone
-joined id host apex = record { id = id; host = host; apex = lowered apex; table = ([], 0); cursors = []; pass = None }
+unfoldable pub joined_zone : ReplicaId → Labels → Labels → ZoneState
+joined_zone id host apex = record { id = id; host = host; apex = lowered apex; table = ([], 0); cursors = []; pass = None }

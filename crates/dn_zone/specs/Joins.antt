@@ -11,7 +11,7 @@ use Rattle.dn_store.specs.Table.{IsNotWritten, unit_at}
 use Rattle.dn_link.specs.declared.packet.Changes.{Changes}
 use Rattle.dn_zone.specs.declared.zone.Prepared.{Prepared}
 use Rattle.dn_zone.specs.declared.zone.Prepared.TheVariants.{Same, Became}
-use Rattle.dn_zone.specs.declared.zone.Zone.{Zone}
+use Rattle.dn_zone.specs.State.{ZoneState}
 
 -- what a write brings, under its stamp
 abbrev pub stamped_write : Write → Stamped UnitValue
@@ -34,6 +34,6 @@ pub record Joins (writes : List Write) (before after : List units.Unit) : Type 0
   pub others : (key : UnitKey) → IsNotWritten key writes → unit_at key after ≡ unit_at key before
 
 -- where changes were taken, the zone behind them has joined them
-abbrev pub JoinsChanges : Prepared → Zone → Changes → Type 0
+abbrev pub JoinsChanges : Prepared → ZoneState → Changes → Type 0
 JoinsChanges (Same answer) zone changes = ⊤
 JoinsChanges (Became next answer) zone changes = Joins changes.units zone.table.0 next.table.0

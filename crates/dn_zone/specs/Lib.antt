@@ -4,5 +4,6 @@ pub mod Joins
 pub mod Merge
 pub mod Outcome
 pub mod Settings
+pub mod State
 pub mod Valid
 pub mod Zone

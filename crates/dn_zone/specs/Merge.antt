@@ -12,7 +12,7 @@ use Rattle.dn_link.specs.declared.packet.Changes.{Changes}
 use Rattle.dn_link.specs.declared.packet.Packet.{Packet}
 use Rattle.dn_link.specs.declared.packet.Packet.TheVariants as packets
 use Rattle.dn_link.specs.Sent.{changes_room}
-use Rattle.dn_zone.specs.declared.zone.Zone.{Zone}
+use Rattle.dn_zone.specs.State.{ZoneState}
 
 -- ---- cursors: up to which number of a supplier's changes a zone has taken
 
@@ -48,5 +48,5 @@ changes_of table apex id after =
     record { zone = apex; supplier = id; from = from; to = run.to; units = map write_of run.units }
 
 -- what a zone asks of a supplier: its changes above the cursor
-abbrev pub pull_of : Zone → ReplicaId → Packet
+abbrev pub pull_of : ZoneState → ReplicaId → Packet
 pull_of zone supplier = packets.Pull zone.apex zone.id (cursor_of supplier zone.cursors)

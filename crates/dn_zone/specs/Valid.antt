@@ -12,11 +12,11 @@ use Rattle.dn_zone.specs.declared.event.AdminCmd.{AdminCmd}
 use Rattle.dn_zone.specs.declared.event.AdminCmd.TheVariants.{Add, AgingOn, AgingOff, NoRefresh, Refresh}
 use Rattle.dn_zone.specs.declared.event.Event.{Event}
 use Rattle.dn_zone.specs.declared.event.Event.TheVariants as events
-use Rattle.dn_zone.specs.declared.zone.Zone.{Zone}
+use Rattle.dn_zone.specs.State.{ZoneState}
 
 -- A valid zone: the replica's host and the apex are names, the apex in lower case; the units are those of a table, each
 -- valid for the apex; and each cursor is a number of changes.
-pub record IsValidZone (zone : Zone) : Type 0 where
+pub record IsValidZone (zone : ZoneState) : Type 0 where
   pub host : IsName zone.host
   pub apex : IsName zone.apex
   pub lower : is_lower zone.apex ≡ true
@@ -46,7 +46,7 @@ IsProperEvent (events.Step most) = 1 ≤ most
 IsProperEvent (events.Merge changes) = ⊥
 
 -- an event that a zone may meet: a proper one, or a merge of valid changes of this zone
-abbrev pub Meets : Zone → Event → Type 0
+abbrev pub Meets : ZoneState → Event → Type 0
 Meets zone (events.Admin cmd moment) = IsProperCommand cmd
 Meets zone (events.Begin moment) = Unit {0}
 Meets zone (events.Step most) = 1 ≤ most

@@ -47,7 +47,7 @@ impl Zone {
         ensures { IfOk result (λ made. Prepares made self.now (with_table self.now (written (add_wanted self.now name.now row moment) self.now.id moment self.now.table))) }
     {
         let key = UnitKey::Node(name.lower());
-        match with_added(alloc, row, rows_at(&self.table, &key))? {
+        match with_added(alloc, row, rows_at(self.table(), &key))? {
             None => Ok(Prepared::Same(Answer::Admin(AdminDone::Unchanged))),
             Some(rows) => self.write(alloc, key, UnitValue::Live(rows), moment),
         }
@@ -58,7 +58,7 @@ impl Zone {
     fn set(&self, alloc: Global, cmd: &AdminCmd, moment: Moment) -> Result<Prepared, OutOfMemory>
         ensures { IfOk result (λ made. Prepares made self.now (set_step self.now cmd.now moment)) }
     {
-        let list = properties_of(&self.table);
+        let list = properties_of(self.table());
         let rules = rules_of(list);
         let settings = settings_of(alloc, cmd, &rules, moment.hour())?;
         if all_set(&rules, settings.as_slice()) {

@@ -3,8 +3,8 @@ ghost use Rattle.dn_name.specs.Name.{IsName, Labels};
 ghost use Rattle.dn_stamp.specs.declared.stamp.ReplicaId.{ReplicaId};
 ghost use Rattle.dn_link.specs.Sent.{IsValidRun};
 ghost use Rattle.dn_zone.specs.declared.event.Event.{Event};
-ghost use Rattle.dn_zone.specs.declared.zone.Zone.{Zone};
-ghost use Rattle.dn_zone.specs.Creation.{created, joined};
+ghost use Rattle.dn_zone.specs.State.{ZoneState};
+ghost use Rattle.dn_zone.specs.Creation.{created, joined_zone};
 ghost use Rattle.dn_zone.specs.Merge.{changes_of};
 ghost use Rattle.dn_zone.specs.Valid.{IsValidZone, Meets};
 ghost use Rattle.dn_zone.specs.Zone.{zstep};
@@ -13,7 +13,7 @@ ghost use Rattle.dn_zone.specs.Zone.{zstep};
 /// valid, and the changes that it sends are valid. It stands in the contract, and nothing runs.
 pub fn zones_stay_valid()
     ensures created { (id : ReplicaId) (host apex mailbox : Labels) (ticks : ℕ) → IsName host → IsName apex → IsName mailbox → IsValidZone (created id host apex mailbox ticks) }
-    ensures joined { (id : ReplicaId) (host apex : Labels) → IsName host → IsName apex → IsValidZone (joined id host apex) }
-    ensures events { (zone : Zone) (event : Event) → IsValidZone zone → Meets zone event → IsValidZone (zstep zone event).0 }
-    ensures changes { (zone : Zone) (after : ℕ) → IsValidZone zone → IsValidRun (changes_of zone.table zone.apex zone.id after) }
+    ensures joined { (id : ReplicaId) (host apex : Labels) → IsName host → IsName apex → IsValidZone (joined_zone id host apex) }
+    ensures events { (zone : ZoneState) (event : Event) → IsValidZone zone → Meets zone event → IsValidZone (zstep zone event).0 }
+    ensures changes { (zone : ZoneState) (after : ℕ) → IsValidZone zone → IsValidRun (changes_of zone.table zone.apex zone.id after) }
 {}

@@ -3,7 +3,7 @@ ghost use Rattle.std.specs.List.{AllByRecursion};
 ghost use Rattle.dn_io.specs.Stepping.{StepsOrStays};
 ghost use Rattle.dn_store.specs.Table.{KeysDiffer, change_limit};
 ghost use Rattle.dn_store.specs.Value.{fits};
-ghost use Rattle.dn_zone.specs.Creation.{created, joined};
+ghost use Rattle.dn_zone.specs.Creation.{created, joined_zone};
 ghost use Rattle.dn_zone.specs.Merge.{cursor_of};
 ghost use Rattle.dn_zone.specs.Zone.{swept_zone, zstep};
 ghost use Rattle.dn_zone.specs.Zone.Preparing.{Prepares};
@@ -17,20 +17,29 @@ use dn_pass::Pass;
 use dn_stamp::{ReplicaId, Stamp};
 use dn_store::{Table, UnitKey, UnitValue, Write};
 use std::alloc::Global;
+use std::marker::Model;
 
 /// A zone on one replica.
 #[derive(Drop)]
 pub struct Zone {
-    pub id: ReplicaId,
-    /// The replica's own name, the primary server of the SOA that is answered.
-    pub host: Name,
-    /// The name of the zone, in lower case.
-    pub apex: Name,
-    pub table: Table,
-    /// Up to which number of each supplier's changes it has taken.
-    pub cursors: Cursors,
-    /// The pass that runs.
-    pub pass: Option<Pass>,
+    pub(crate) id: ReplicaId,
+    // The replica's own name, the primary server of the SOA that is answered.
+    pub(crate) host: Name,
+    // The name of the zone, in lower case.
+    pub(crate) apex: Name,
+    pub(crate) table: Table,
+    // Up to which number of each supplier's changes it has taken.
+    pub(crate) cursors: Cursors,
+    // The pass that runs.
+    pub(crate) pass: Option<Pass>,
+}
+
+impl Model for Zone {
+    ghost use Rattle.dn_zone.specs.State.{ZoneState};
+
+    ghost Value = { ZoneState };
+
+    ghost view = { λ it. record { id = it.id; host = it.host; apex = it.apex; table = it.table; cursors = it.cursors; pass = it.pass } };
 }
 
 /// What an event is about to make of a zone: it stays the same, or becomes another. Either way the event is answered.
@@ -84,9 +93,9 @@ impl Zone {
     ///
     /// # Errors
     /// `OutOfMemory`.
-    #[tactic(auto, unfolding(crate::specs::Creation::joined))]
+    #[tactic(auto, unfolding(crate::specs::Creation::joined_zone))]
     pub fn join(alloc: Global, id: ReplicaId, host: Name, apex: Name) -> Result<Zone, OutOfMemory>
-        ensures { IfOk result (λ zone. zone ≡ joined id host apex) }
+        ensures { IfOk result (λ zone. zone ≡ joined_zone id host apex) }
     {
         Ok(Zone {
             id,

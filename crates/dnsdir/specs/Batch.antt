@@ -2,9 +2,10 @@
 use Rattle.std.specs.Prelude.{◌≡◌, ◌⊎◌, ℕ, Bool, true, false, List, Option}
 use Rattle.dn_io.specs.declared.status.Status.{Status}
 use Rattle.dn_io.specs.declared.status.Status.TheVariants.{Done, OutOfMemory}
-use Rattle.dn_script.specs.Play.{AtEnd, Ended, play}
-use Rattle.dn_script.specs.Said.{EndedLines, Says}
-use Rattle.dn_script.specs.Values.{IsPacked, IsShown}
+use Rattle.dn_script.specs.Play.{Ended, play}
+use Rattle.dn_lines.specs.Said.{AtEnd}
+use Rattle.dn_lines.specs.Said.{EndedLines, Says}
+use Rattle.dn_lines.specs.Values.{IsPacked, IsShown}
 use Rattle.dnsdir.specs.declared.command.Command.{Command}
 use Rattle.dnsdir.specs.declared.command.Command.TheVariants.{Show, Pack, Replay, Generate, Serve, Usage}
 

@@ -30,10 +30,9 @@ pack     reads such text, and writes records and properties as hex digits
 
 A script, and what it prints:
 
-    replica a 000102030405060708090a0b0c0d0e0f ns1.x
-    at 36000000000000
-    zone create a x admin.x
-    admin a x add h.x 3600 A 10.0.0.1
+    replica dc1 000102030405060708090a0b0c0d0e0f dc1.corp.example
+    zone create dc1 corp.example hostmaster.corp.example
+    admin dc1 corp.example add printer.corp.example 3600 A 10.0.0.9
 
     ok 1
 
@@ -49,8 +48,11 @@ A line for `pack`, and what it prints:
 
     property 04000000040000000000000001000000400000000100000000
 
+The page docs/SCRIPT.md of the sources has all lines, what each prints, and when it isn't valid.
+
 The status is 0 where each line was valid, 1 at the first line that isn't, 2 for other words, 3 where a read failed,
 4 where a write failed, 5 where memory ran out, and 6 where a line has more than 200,000 bytes or reaches past byte 2^30.
+A sentence on standard error says so where it isn't 0.
 ";
 
 const VERSION: &str = "dnsdir 0.1.0\n";
@@ -58,7 +60,7 @@ const VERSION: &str = "dnsdir 0.1.0\n";
 const USAGE: &str = "usage: dnsdir replay|show|pack < INPUT (dnsdir --help says more)\n";
 
 // Why there are no words: one of them isn't UTF-8, or memory ran out.
-fn status_of(error: io::Error) -> Status {
+fn status_of(error: &io::Error) -> Status {
     if error.kind() == io::ErrorKind::OutOfMemory {
         Status::OutOfMemory
     } else {
@@ -112,19 +114,25 @@ fn run(rt: &(impl Input + Print), alloc: Global, words: &[String]) -> Status {
 }
 
 // Says on standard error what the status alone doesn't. Where that fails, the status still tells.
-fn explain(rt: &impl Eprint, status: &Status) {
-    let _ = match status {
-        Status::BadLine(number) => rt.eprintln(Fault::BadLine(*number)),
-        Status::Usage => rt.eprint(USAGE),
-        _ => Ok(()),
-    };
+fn explain(rt: &impl Eprint, status: &Status, words: Option<&[String]>) {
+    if let Some(fault) = Fault::of(status, words) {
+        let _ = rt.eprintln(fault);
+    }
+    if *status == Status::Usage {
+        let _ = rt.eprint(USAGE);
+    }
 }
 
 fn main(rt: HostRuntime) -> ExitCode {
-    let status = match words_of(&rt) {
-        Ok(words) => run(&rt, rt.alloc(), &words),
+    let words = words_of(&rt);
+    let status = match &words {
+        Ok(words) => run(&rt, rt.alloc(), words),
         Err(error) => status_of(error),
     };
-    explain(&rt, &status);
+    let words = match &words {
+        Ok(words) => Some(words.as_slice()),
+        Err(_) => None,
+    };
+    explain(&rt, &status, words);
     ExitCode::from(status.code())
 }

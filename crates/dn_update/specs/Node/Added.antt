@@ -3,6 +3,6 @@ use Rattle.std.specs.Prelude.{◌≡◌, true, false, List, Option, None, Some}
 use Rattle.dn_rdata.specs.declared.record.Record.{Record}
 use Rattle.dn_update.specs.Node.{is_same_set, with_added}
 
-abbrev pub Adds : Option (List Record) → Record → List Record → Type 0
-Adds None row rows = is_same_set rows (with_added row rows) ≡ true
-Adds (Some after) row rows = (after ≡ with_added row rows) × (is_same_set rows after ≡ false)
+abbrev pub AddsRow : Option (List Record) → Record → List Record → Type 0
+AddsRow None row rows = is_same_set rows (with_added row rows) ≡ true
+AddsRow (Some after) row rows = (after ≡ with_added row rows) × (is_same_set rows after ≡ false)

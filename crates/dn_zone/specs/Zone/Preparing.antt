@@ -3,8 +3,8 @@ use Rattle.std.specs.Prelude.{◌≡◌}
 use Rattle.dn_zone.specs.declared.event.Answer.{Answer}
 use Rattle.dn_zone.specs.declared.zone.Prepared.{Prepared}
 use Rattle.dn_zone.specs.declared.zone.Prepared.TheVariants.{Same, Became}
-use Rattle.dn_zone.specs.declared.zone.Zone.{Zone}
+use Rattle.dn_zone.specs.State.{ZoneState}
 
-abbrev pub Prepares : Prepared → Zone → Zone × Answer → Type 0
+abbrev pub Prepares : Prepared → ZoneState → ZoneState × Answer → Type 0
 Prepares (Same answer) zone after = after ≡ (zone, answer)
 Prepares (Became next answer) zone after = after ≡ (next, answer)

@@ -1,4 +1,4 @@
-use Rattle.std.proofs.Common.{arith}
+use Rattle.std.proofs.Common.{◌≡◌, ℕ, ◌∙◌, List, ap, arith, drop, rules}
 use Rattle.dn_message.specs.Writer.{Holds}
 use Rattle.dn_answer.specs.Sendable.{sent}
 use Rattle.dn_answer.proofs.WrittenLemmas.{additional_fits, all_held, answer_fits, answer_held, authority_fits, authority_held, sent_len}
@@ -30,3 +30,14 @@ returns-clause-len c =
     c.write_rows-2.new.writer c.as_slice-2.result.now c.as_slice-2.ensures c.write_rows-2.ensures.writes
     c.write_rows-3.new.writer c.as_slice-3.result.now c.as_slice-3.ensures c.write_rows-3.ensures.writes in
     sent_len c.args.query.now c.args.reply.now c.requires.sendable c.finish.result (c.finish.ensures.reads (sent c.args.query.now c.args.reply.now) held).1
+
+-- the lent buffer's last bytes, and what the writer left in it, have two names
+of_same : (len : ℕ) (lent left before : List ℕ) → lent ≡ left → drop len left ≡ drop len before → drop len lent ≡ drop len before
+of_same len lent left before same rest = ap (drop len) same ∙ rest
+
+pub returns-clause-rest : goal.returns-clause-rest
+returns-clause-rest c =
+    of_same c.finish.result _ c.finish.new.self.0 c.args.out.now (search rules)
+    (c.finish.ensures.rest c.args.out.now
+    (c.write_rows-3.ensures.keeps c.args.out.now
+    (c.write_rows-2.ensures.keeps c.args.out.now (c.write_rows.ensures.keeps c.args.out.now c.begin_answer-writer.ensures.keeps))))

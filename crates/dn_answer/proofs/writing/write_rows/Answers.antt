@@ -27,7 +27,7 @@ unreachable-requires c =
 pub loop-row-preserved : goal.loop-row-preserved
 loop-row-preserved c =
     goes_next c.args.writer.now c.args.section c.args.rows.now c.loop-row.row-index c.loop-row.writer c.loop-row.invariant c.row-item.result c.row-item.is c.loop-row-test.true
-    c.as_slice.result.now c.as_slice.ensures c.row.new.self c.in-Ok.ensures.size c.in-Ok.field-0 c.in-Ok.ensures.same_reference c.in-Ok.ensures.accepts
+    c.as_slice.result.now c.as_slice.ensures c.row.new.self c.in-Ok.ensures.size c.in-Ok.field-0 c.in-Ok.ensures.same_reference c.in-Ok.ensures.keeps c.in-Ok.ensures.accepts
 
 pub returns-clause-writes : goal.returns-clause-writes
 returns-clause-writes c =

@@ -51,3 +51,23 @@ returns-in_err-seen-clause-value c = value_is c.args.bytes.now _ (returns-in_err
 
 pub returns-clause-value : goal.returns-clause-value
 returns-clause-value c = sym (query_is c.args.bytes.now _ (returns-clause-exact c).0)
+
+pub returns-in_err-header-clause-fault : goal.returns-in_err-header-clause-fault
+returns-in_err-header-clause-fault c =
+    let p = err_from_is_err_and c.from_residual.result c.from_residual.ensures.1 in
+    rw p.1 (λ begins none. absurd (c.in_err-header.ensures.exact (record { id = begins.0; flags = begins.1; additional = begins.2 }) begins.3))
+
+pub returns-in_err-name-clause-fault : goal.returns-in_err-name-clause-fault
+returns-in_err-name-clause-fault c =
+    let p = err_from_is_err_and c.from_residual-in_err-name.result c.from_residual-in_err-name.ensures.1 in
+    rw (p.1, p.2) (λ begins none. c.in_err-name.ensures.fault)
+
+pub returns-in_err-qtype-clause-fault : goal.returns-in_err-qtype-clause-fault
+returns-in_err-qtype-clause-fault c =
+    let p = err_from_is_err_and c.from_residual-in_err-qtype.result c.from_residual-in_err-qtype.ensures.1 in
+    rw p.1 (λ begins none. absurd (none (c.in_ok-name.name, c.in_ok-name.behind) c.in_ok-name.ensures.exact.0))
+
+pub returns-in_err-seen-clause-fault : goal.returns-in_err-seen-clause-fault
+returns-in_err-seen-clause-fault c =
+    let p = err_from_is_err_and c.from_residual-in_err-seen.result c.from_residual-in_err-seen.ensures.1 in
+    rw p.1 (λ begins none. absurd (none (c.in_ok-name.name, c.in_ok-name.behind) c.in_ok-name.ensures.exact.0))

@@ -18,3 +18,13 @@ returns-clause-exact c =
     let name = c.in_ok-name.ensures.exact in
     let kind = c.in_ok-qtype.ensures.exact in
     question_found c.args.bytes.now c.args.at c.in_ok-name.name c.in_ok-name.behind name.0 name.1 (c.in_ok-qtype.qtype, c.in_ok-qtype.qclass) kind.0 kind.1
+
+pub returns-in_err-name-clause-fault : goal.returns-in_err-name-clause-fault
+returns-in_err-name-clause-fault c =
+    let p = err_from_is_err_and c.from_residual.result c.from_residual.ensures.1 in
+    rw (p.1, p.2) (λ none. c.in_err-name.ensures.fault)
+
+pub returns-in_err-qtype-clause-fault : goal.returns-in_err-qtype-clause-fault
+returns-in_err-qtype-clause-fault c =
+    let p = err_from_is_err_and c.from_residual-in_err-qtype.result c.from_residual-in_err-qtype.ensures.1 in
+    rw p.1 (λ none. absurd (none (c.in_ok-name.name, c.in_ok-name.behind) c.in_ok-name.ensures.exact.0))

@@ -20,3 +20,14 @@ returns-clause-passes c =
     let read = c.in_ok-head.ensures.exact in
     passes_one c.args.bytes.now c.args.at c.in_ok-head.head c.in_ok-head.place read.0 read.1 _ c.in_ok-head.ensures.within
     (omega (arith, c.in_ok-next.ensures.within, c.in_ok-next.ensures.found)) c.in_ok-next.ensures.found
+
+pub returns-in_err-head-clause-fault : goal.returns-in_err-head-clause-fault
+returns-in_err-head-clause-fault c =
+    let p = err_from_is_err_and c.from_residual.result c.from_residual.ensures.1 in
+    rw (p.1, p.2) c.in_err-head.ensures.fault
+
+pub returns-in_err-next-clause-fault : goal.returns-in_err-next-clause-fault
+returns-in_err-next-clause-fault c =
+    let p = err_from_is_err_and c.from_residual-in_err-next.result c.from_residual-in_err-next.ensures.1 in
+    let head = c.in_ok-head.ensures.exact.0 in
+    rw p.1 (λ none. absurd (none (c.in_ok-head.head.name, head.behind) head.name_spelled))

@@ -18,3 +18,11 @@ pub returns-in-None-clause-exact : goal.returns-in-None-clause-exact
 returns-in-None-clause-exact c =
     let name = c.in_ok-name.ensures.exact in
     no_fields c.args.bytes.now c.args.at c.in_ok-name.behind c.in_ok-name.name name.0 name.1 (omega (arith, c.in-None.ensures.none, ap length c.split_at.ensures.back))
+
+pub returns-in_err-name-clause-fault : goal.returns-in_err-name-clause-fault
+returns-in_err-name-clause-fault c =
+    let p = err_from_is_err_and c.from_residual.result c.from_residual.ensures.1 in
+    rw (p.1, p.2) (λ none. c.in_err-name.ensures.fault)
+
+pub returns-in-None-clause-fault : goal.returns-in-None-clause-fault
+returns-in-None-clause-fault c = λ none. absurd (none (c.in_ok-name.name, c.in_ok-name.behind) c.in_ok-name.ensures.exact.0)

@@ -1,5 +1,5 @@
-use Rattle.std.proofs.Common.{◌≡◌, sym, subst}
-use Rattle.dn_world.specs.Laws.{AgesRightly, AnswersAlike}
+use Rattle.std.proofs.Common.{◌≡◌, ◌++◌, sym, subst}
+use Rattle.dn_world.specs.Laws.{AnswersAlike}
 use Rattle.dn_world.specs.Runs.{AreProper, IsValidWorld, wrun}
 use Rattle.dn_script.specs.Play.{play}
 use Rattle.dn_script.proofs.PlayRuns.{play_proper, play_runs}
@@ -15,6 +15,6 @@ returns c script =
       world = world;
       valid = valid;
       alike = subst AnswersAlike (sym world) (c.replicas_answer_alike.ensures (play script).events proper);
-      aging = subst AgesRightly (sym world) (c.zones_age_rightly.ensures (play script).events);
+      aging = λ more. c.zones_age_rightly.ensures.runs ((play script).events ++ more);
       replies = c.replies_are_read_rightly.ensures (play script).world valid;
     }

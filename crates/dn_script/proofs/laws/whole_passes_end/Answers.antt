@@ -1,5 +1,8 @@
-use Rattle.dn_script.proofs.WholePassLemmas.{whole_passes}
+use Rattle.dn_script.proofs.WholePassLemmas.{passes_whole, whole_passes}
 use Rattle.dn_script.proofs.laws.whole_passes_end.Goals as goal
 
-pub returns : goal.returns
-returns c = whole_passes
+pub returns-clause-whole : goal.returns-clause-whole
+returns-clause-whole c = passes_whole
+
+pub returns-clause-last : goal.returns-clause-last
+returns-clause-last c = whole_passes

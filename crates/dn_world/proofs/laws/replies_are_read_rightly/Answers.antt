@@ -1,4 +1,4 @@
-use Rattle.dn_world.proofs.RepliesRead.{read_rightly}
+use Rattle.dn_world.proofs.ViewLemmas.{read_rightly}
 use Rattle.dn_world.proofs.laws.replies_are_read_rightly.Goals as goal
 
 pub returns : goal.returns

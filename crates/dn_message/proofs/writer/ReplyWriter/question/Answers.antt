@@ -2,7 +2,7 @@ use Rattle.std.proofs.Common.{arith, refl}
 use Rattle.dn_rdata.specs.Types.{IN}
 use Rattle.dn_message.specs.declared.reply.Question.{Question}
 use Rattle.dn_message.proofs.PieceLemmas.{question_size}
-use Rattle.dn_message.proofs.WriterLemmas.{question_accepted, question_refused}
+use Rattle.dn_message.proofs.WriterLemmas.{keeps_on, question_accepted, question_refused}
 use Rattle.dn_message.proofs.writer.ReplyWriter.question.Goals as goal
 
 pub returns-then-question_len-room-clause-accepts : goal.returns-then-question_len-room-clause-accepts
@@ -20,3 +20,6 @@ pub returns-clause-accepts : goal.returns-clause-accepts
 returns-clause-accepts c =
     let question : Question = record { name = c.args.name.now; qtype = c.args.qtype; qclass = IN } in
     λ reply holds. question_accepted c.args.self.now reply holds question c.requires _ c.question_len.ensures.named refl refl c.put_question-self.ensures.appends
+
+pub returns-clause-keeps : goal.returns-clause-keeps
+returns-clause-keeps c = keeps_on c.args.self.now _ _ c.put_question-self.ensures.appends

@@ -8,11 +8,11 @@ use Rattle.dn_script.proofs.AskLemmas.{ask_done, ask_missing, value_is, value_th
 use Rattle.dn_script.proofs.script.Script.ask.Goals as goal
 
 pub returns-then-at-len : goal.returns-then-at-len
-returns-then-at-len c = ask_missing c.args.self.now c.args.replica.now c.in_ok-at.at c.in_ok-at.ensures c.args.name.now c.args.qtype (omega (arith, c.if-at-len.true, c.len.ensures))
+returns-then-at-len c = ask_missing c.args.self.now c.args.replica.now c.in_ok-at.at c.in_ok-at.ensures c.args.name.now c.args.qtype (omega (arith, c.if-at-len.true, rw c.replicas.ensures at c.len.ensures))
 
 pub value_in-requires : goal.value_in-requires
 value_in-requires c =
-    let within : c.in_ok-at.at < length c.args.self.now.world.replicas = omega (arith, c.if-at-len.false, c.len.ensures) in
+    let within : c.in_ok-at.at < length c.args.self.now.world.replicas = omega (arith, c.if-at-len.false, rw c.replicas.ensures at c.len.ensures) in
     let request = c.split_at.result.0.now in
     let kind : kind_of request ≡ kinds.Query = rw c.split_at.ensures.front c.write_question-len.ensures.kind in
     let is : IsQuery request (question_of c.args.name.now c.args.qtype) = rw c.split_at.ensures.front c.write_question-len.ensures.query in
@@ -21,7 +21,7 @@ value_in-requires c =
 
 pub returns : goal.returns
 returns c =
-    let within : c.in_ok-at.at < length c.args.self.now.world.replicas = omega (arith, c.if-at-len.false, c.len.ensures) in
+    let within : c.in_ok-at.at < length c.args.self.now.world.replicas = omega (arith, c.if-at-len.false, rw c.replicas.ensures at c.len.ensures) in
     let request = c.split_at.result.0.now in
     let kind : kind_of request ≡ kinds.Query = rw c.split_at.ensures.front c.write_question-len.ensures.kind in
     let is : IsQuery request (question_of c.args.name.now c.args.qtype) = rw c.split_at.ensures.front c.write_question-len.ensures.query in

@@ -1,6 +1,0 @@
-use Rattle.dn_script.specs.Values.{IsPacked}
-use Rattle.dn_script.proofs.OnceLemmas.{packed_once, texts_once}
-use Rattle.dn_script.proofs.laws.packed_texts_are_one.Goals as goal
-
-pub returns : goal.returns
-returns c = texts_once IsPacked (packed_once c.values_are_one.ensures)

@@ -1,5 +1,0 @@
-use Rattle.dn_script.proofs.ValuesBack.{packed_shown}
-use Rattle.dn_script.proofs.laws.packed_values_are_shown.Goals as goal
-
-pub returns : goal.returns
-returns c = packed_shown

@@ -1,6 +1,0 @@
-use Rattle.dn_script.specs.Values.{IsShown}
-use Rattle.dn_script.proofs.OnceLemmas.{shown_once, texts_once}
-use Rattle.dn_script.proofs.laws.shown_texts_are_one.Goals as goal
-
-pub returns : goal.returns
-returns c = texts_once IsShown (shown_once c.values_are_one.ensures)

@@ -1,5 +1,0 @@
-use Rattle.dn_script.proofs.ValuesBack.{shown_packed}
-use Rattle.dn_script.proofs.laws.shown_values_are_packed.Goals as goal
-
-pub returns : goal.returns
-returns c = shown_packed c.values_are_one.ensures
