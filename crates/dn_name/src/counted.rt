@@ -55,7 +55,6 @@ impl Name {
     }
 }
 
-// The two bytes at the front, and the bytes behind them.
 fn first_two(bytes: &[u8]) -> Option<(u8, u8, &[u8])>
     ensures found { IfSome result (λ found. bytes.now ≡ found.0 ∷ (found.1 ∷ found.2.now)) }
     ensures none { IfNone result (length bytes.now < 2) }

@@ -70,7 +70,6 @@ fn compare_labels(left: &[u8], right: &[u8], otherwise: Ordering) -> Ordering
     }
 }
 
-// The order of labels by their bytes, letters in lower case.
 fn compare_folded(left: &[u8], right: &[u8]) -> Ordering
     ensures { result ≡ slice_cmp nat_cmp (lower_label left.now) (lower_label right.now) }
 {

@@ -5,7 +5,6 @@ ghost use Rattle.dn_property.specs.Numbers.{four_little, number_in};
 
 use dn_io::{List, OutOfMemory};
 
-// The number of four bytes at the front, and the bytes behind it.
 pub(crate) fn first_u32(bytes: &[u8]) -> Option<(u32, &[u8])>
     ensures found { IfSome result (λ found. bytes.now ≡ four_little found.0 ++ found.1.now) }
     ensures none { IfNone result (length bytes.now < 4) }
@@ -28,7 +27,6 @@ pub(crate) fn number_in(content: &[u8]) -> Option<u32>
     }
 }
 
-// Adds a number at the end.
 pub(crate) fn push_u32(bytes: &mut List<u8>, number: u32) -> Result<(), OutOfMemory>
     ensures { OnOk result (bytes.new ≡ bytes.old ++ four_little number) }
 {

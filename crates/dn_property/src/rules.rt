@@ -32,14 +32,12 @@ fn first_of(id: u32, list: &[Property]) -> Option<&Property>
     list.iter().find(|item| item.id == id)
 }
 
-// The data of the first property of an id.
 fn data_of(id: u32, list: &[Property]) -> Option<&[u8]>
     ensures { option_copied result ≡ data_of id list.now }
 {
     Some(first_of(id, list)?.content.as_slice())
 }
 
-// The number of a property, or the default where there is none.
 fn number_or(default: u32, id: u32, list: &[Property]) -> u32
     ensures { result ≡ number_or default id list.now }
 {

@@ -14,7 +14,6 @@ use crate::property::Property;
 use dn_io::{List, OutOfMemory};
 use std::alloc::Global;
 
-// The version that there is.
 const VERSION: u32 = 1;
 
 // How many bytes the head has, and the place of the version in it.
@@ -49,7 +48,6 @@ pub fn read_property(alloc: Global, bytes: &[u8]) -> Result<Property, PropertyRe
     Ok(joined(alloc, head, content, tail)?)
 }
 
-// The property of a head, a content and a tail.
 fn joined(alloc: Global, head: Head, content: &[u8], tail: &[u8]) -> Result<Property, OutOfMemory>
     ensures { IfOk result (λ property. property ≡ joined head content.now tail.now) }
 {
@@ -62,7 +60,6 @@ fn joined(alloc: Global, head: Head, content: &[u8], tail: &[u8]) -> Result<Prop
     })
 }
 
-// The head, and the bytes behind it.
 fn read_head(bytes: &[u8]) -> Option<(Head, &[u8])>
     ensures found { IfSome result (λ found. bytes.now ≡ head_bytes found.0 ++ found.1.now) }
     ensures none { IfNone result (length bytes.now < 20) }
@@ -82,7 +79,6 @@ fn read_head(bytes: &[u8]) -> Option<(Head, &[u8])>
     Some((head, rest))
 }
 
-// The head, the content and the tail of the property that the bytes are.
 fn split_parts(bytes: &[u8]) -> Result<(Head, &[u8], &[u8]), PropertyError>
     ensures parts { IfOk result (λ parts. IsSplit bytes.now parts.0 parts.1.now parts.2.now) }
     ensures fault { IfErr result (λ error. FirstFault bytes.now error.kind error.place) }
@@ -139,7 +135,6 @@ pub fn write_property(alloc: Global, item: &Property) -> Result<List<u8>, OutOfM
     Ok(bytes)
 }
 
-// Adds the head of a property at the end.
 fn push_head(bytes: &mut List<u8>, item: &Property) -> Result<(), OutOfMemory>
     requires content { length item.now.content < 2 ^ 32 }
     ensures { OnOk result (bytes.new ≡ bytes.old ++ head_bytes (head_of item.now)) }

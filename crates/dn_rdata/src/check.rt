@@ -32,7 +32,7 @@ pub fn check_rdata(rtype: u16, bytes: &[u8]) -> Result<(), DataFault>
     }
 }
 
-// Whether the parts are so many bytes and nothing else.
+// Data of such parts have one length, so that a wrong one is told at their first byte.
 fn are_fixed(parts: &[Part]) -> bool
     ensures { result ≡ are_fixed parts.now }
 {
@@ -65,7 +65,6 @@ fn check_parts(bytes: &[u8], at: usize, parts: &[Part]) -> Result<(), DataFault>
     }
 }
 
-// Where a part goes wrong that is missing at a place.
 fn fault_of_part(bytes: &[u8], at: usize, part: Part) -> DataFault
     requires at { at ≤ length bytes.now }
     requires missing { IsMissing part (drop at bytes.now) }
@@ -78,7 +77,6 @@ fn fault_of_part(bytes: &[u8], at: usize, part: Part) -> DataFault
     DataFault { place }
 }
 
-// The bytes behind a part that stands at the front; none where it doesn't.
 fn behind_part(bytes: &[u8], part: Part) -> Option<&[u8]>
     ensures found { IfSome result (λ rest. Begins part bytes.now rest.now) }
     ensures only { (back : Seq ℕ) → Begins part bytes.now back → option_map (λ rest. rest.now) result ≡ Some back }
@@ -96,7 +94,6 @@ fn behind_part(bytes: &[u8], part: Part) -> Option<&[u8]>
     }
 }
 
-// The bytes behind so many; none where there are fewer.
 fn behind_bytes(bytes: &[u8], count: u8) -> Option<&[u8]>
     ensures found { IfSome result (λ rest. Begins (kinds.Bytes count) bytes.now rest.now) }
     ensures only { (back : Seq ℕ) → Begins (kinds.Bytes count) bytes.now back → option_map (λ rest. rest.now) result ≡ Some back }
@@ -105,7 +102,6 @@ fn behind_bytes(bytes: &[u8], count: u8) -> Option<&[u8]>
     Some(rest)
 }
 
-// The bytes behind a name without pointers; none where the bytes don't begin with one.
 pub(crate) fn behind_name(bytes: &[u8]) -> Option<&[u8]>
     ensures found { IfSome result (λ rest. Begins kinds.OneName bytes.now rest.now) }
     ensures only { (back : Seq ℕ) → Begins kinds.OneName bytes.now back → option_map (λ rest. rest.now) result ≡ Some back }
@@ -115,7 +111,6 @@ pub(crate) fn behind_name(bytes: &[u8]) -> Option<&[u8]>
     Some(rest)
 }
 
-// The bytes behind a string; none where it is cut.
 fn behind_text(bytes: &[u8]) -> Option<&[u8]>
     ensures found { IfSome result (λ rest. Begins kinds.OneText bytes.now rest.now) }
     ensures only { (back : Seq ℕ) → Begins kinds.OneText bytes.now back → option_map (λ rest. rest.now) result ≡ Some back }
@@ -125,8 +120,7 @@ fn behind_text(bytes: &[u8]) -> Option<&[u8]>
     Some(rest)
 }
 
-// The end, where the bytes are one or more strings up to it; none where they aren't. It is a loop, since there can be as
-// many strings as bytes.
+// It is a loop, since there can be as many strings as bytes.
 fn behind_texts(bytes: &[u8]) -> Option<&[u8]>
     ensures found { IfSome result (λ rest. Begins kinds.Texts bytes.now rest.now) }
     ensures only { (back : Seq ℕ) → Begins kinds.Texts bytes.now back → option_map (λ rest. rest.now) result ≡ Some back }

@@ -39,7 +39,6 @@ pub fn bytes_behind_names(rtype: u16) -> usize
     }
 }
 
-// Whether a place of a record's data lies in its names.
 fn is_in_names(rtype: u16, len: usize, at: usize) -> bool
     ensures { result ≡ (not (nat_eq (names_in rtype) 0) && nat_le (bytes_before_names rtype) at && nat_lt at (len - bytes_behind_names rtype)) }
 {
@@ -57,7 +56,6 @@ fn lower_byte(byte: u8) -> u8
     }
 }
 
-// The byte at a place of a record's data, with the letters of names in lower case.
 fn folded_byte(rtype: u16, rdata: &[u8], at: usize) -> u8
     requires { at < length rdata.now }
     ensures { result ≡ slice_index (folded rtype rdata.now) at }
@@ -70,7 +68,6 @@ fn folded_byte(rtype: u16, rdata: &[u8], at: usize) -> u8
     }
 }
 
-// The order of two records' data, with the letters of names in lower case.
 fn compare_data(left_type: u16, left: &[u8], right_type: u16, right: &[u8]) -> Ordering
     ensures { result ≡ bytes_cmp (folded left_type left.now) (folded right_type right.now) }
 {
@@ -109,7 +106,6 @@ pub fn same_rdata(rtype: u16, left: &[u8], right: &[u8]) -> bool
     compare_data(rtype, left, rtype, right).is_eq()
 }
 
-// The order of two records by the numbers beside type and data.
 fn compare_fields(left: &Record, right: &Record) -> Ordering
     ensures { result ≡ field_order left.now right.now }
 {

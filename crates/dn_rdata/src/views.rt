@@ -51,7 +51,6 @@ impl Record {
     }
 }
 
-// The parts of a type's data.
 fn view_of(rtype: u16, rdata: &[u8]) -> DataView<'_>
     requires { IsData rtype rdata.now }
     ensures { IsView rtype rdata.now result }
@@ -106,7 +105,6 @@ fn view_of_srv(rdata: &[u8]) -> DataView<'_>
     }
 }
 
-// The bytes of the name at the front, and those behind it.
 fn split_name(bytes: &[u8]) -> (&[u8], &[u8])
     requires { (back : Seq ℕ) × Begins kinds.OneName bytes.now back }
     ensures split { bytes.now ≡ result.0.now ++ result.1.now }
@@ -119,7 +117,6 @@ fn split_name(bytes: &[u8]) -> (&[u8], &[u8])
     }
 }
 
-// The number that the first two bytes are, the high one first, and the bytes behind them.
 fn split_number(bytes: &[u8]) -> (u16, &[u8])
     requires { 2 ≤ length bytes.now }
     ensures split { bytes.now ≡ to_be_bytes w16 result.0 ++ result.1.now }

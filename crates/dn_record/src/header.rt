@@ -79,7 +79,6 @@ fn check_kind(kind: Kind, found: usize) -> Result<(), RecordError>
     Ok(())
 }
 
-// The header at the front, and the bytes behind it.
 fn first_header(bytes: &[u8]) -> Option<(Kind, Numbers, &[u8])>
     ensures found { IfSome result (λ found. bytes.now ≡ kind_bytes found.0 ++ (numbers_bytes found.1 ++ found.2.now)) }
     ensures none { IfNone result (length bytes.now < 24) }

@@ -51,7 +51,6 @@ pub(crate) fn plain_names(bytes: &[u8], count: usize) -> Option<Found<'_>>
     }
 }
 
-// The counted name at the front, and the bytes behind it.
 fn counted_name(bytes: &[u8]) -> Option<(Name, &[u8])>
     ensures found { IfSome result (λ found. IsName found.0 × (bytes.now ≡ counted_of found.0 ++ found.1.now)) }
     ensures only { (name : Labels) (back : Seq ℕ) → IsName name → bytes.now ≡ counted_of name ++ back → option_map {U = Labels × Seq ℕ} (λ found. (found.0, found.1.now)) result ≡ Some (name, back) }
@@ -65,7 +64,6 @@ fn counted_name(bytes: &[u8]) -> Option<(Name, &[u8])>
     }
 }
 
-// The name without pointers at the front, and the bytes behind it.
 fn plain_name(bytes: &[u8]) -> Option<(Name, &[u8])>
     ensures found { IfSome result (λ found. IsName found.0 × (bytes.now ≡ wire_of found.0 ++ found.1.now)) }
     ensures only { (name : Labels) (back : Seq ℕ) → IsName name → bytes.now ≡ wire_of name ++ back → option_map {U = Labels × Seq ℕ} (λ found. (found.0, found.1.now)) result ≡ Some (name, back) }

@@ -1,9 +1,8 @@
-//! Numbers of two and four bytes at the front of others.
+//! Numbers of two and four bytes. The low one comes first, except where the name says big.
 
 ghost use Rattle.std.specs.Prelude.{◌≡◌, ◌<◌, ◌∷◌, ◌++◌, length, IfNone, IfSome};
 ghost use Rattle.dn_record.specs.Fields.{four_big, four_little, two_little};
 
-// The byte at the front, and the bytes behind it.
 pub(crate) fn first_byte(bytes: &[u8]) -> Option<(u8, &[u8])>
     ensures found { IfSome result (λ found. bytes.now ≡ found.0 ∷ found.1.now) }
     ensures none { IfNone result (length bytes.now < 1) }
@@ -12,7 +11,6 @@ pub(crate) fn first_byte(bytes: &[u8]) -> Option<(u8, &[u8])>
     Some((*first, rest))
 }
 
-// The number of two bytes, the low one first, and the bytes behind it.
 pub(crate) fn first_u16(bytes: &[u8]) -> Option<(u16, &[u8])>
     ensures found { IfSome result (λ found. bytes.now ≡ two_little found.0 ++ found.1.now) }
     ensures none { IfNone result (length bytes.now < 2) }
@@ -23,7 +21,6 @@ pub(crate) fn first_u16(bytes: &[u8]) -> Option<(u16, &[u8])>
     }
 }
 
-// The number of four bytes, the low one first, and the bytes behind it.
 pub(crate) fn first_u32(bytes: &[u8]) -> Option<(u32, &[u8])>
     ensures found { IfSome result (λ found. bytes.now ≡ four_little found.0 ++ found.1.now) }
     ensures none { IfNone result (length bytes.now < 4) }
@@ -36,7 +33,6 @@ pub(crate) fn first_u32(bytes: &[u8]) -> Option<(u32, &[u8])>
     }
 }
 
-// The number of four bytes, the high one first, and the bytes behind it.
 pub(crate) fn first_big_u32(bytes: &[u8]) -> Option<(u32, &[u8])>
     ensures found { IfSome result (λ found. bytes.now ≡ four_big found.0 ++ found.1.now) }
     ensures none { IfNone result (length bytes.now < 4) }
@@ -49,21 +45,18 @@ pub(crate) fn first_big_u32(bytes: &[u8]) -> Option<(u32, &[u8])>
     }
 }
 
-// A number as two bytes, the low one first.
 pub(crate) fn two_little(number: u16) -> [u8; 2]
     ensures { result ≡ two_little number }
 {
     number.to_le_bytes()
 }
 
-// A number as four bytes, the low one first.
 pub(crate) fn four_little(number: u32) -> [u8; 4]
     ensures { result ≡ four_little number }
 {
     number.to_le_bytes()
 }
 
-// A number as four bytes, the high one first.
 pub(crate) fn four_big(number: u32) -> [u8; 4]
     ensures { result ≡ four_big number }
 {

@@ -81,7 +81,6 @@ fn parts_without_names(rtype: u16, bytes: &[u8]) -> Option<DataParts<'_>>
     })
 }
 
-// The parts of data with names.
 fn with_names<'a>(
     before: &'a [u8],
     first: Name,

@@ -43,7 +43,6 @@ pub fn read_record(alloc: Global, bytes: &[u8]) -> Result<Record, RecordReadErro
     })
 }
 
-// The data on the wire that have these parts.
 fn wire_of(alloc: Global, parts: &DataParts<'_>) -> Result<List<u8>, OutOfMemory>
     ensures { IfOk result (λ rdata. rdata ≡ wire_of_parts parts.now) }
 {
@@ -55,7 +54,6 @@ fn wire_of(alloc: Global, parts: &DataParts<'_>) -> Result<List<u8>, OutOfMemory
     Ok(rdata)
 }
 
-// Adds a name on the wire, where there is one.
 fn add_name(out: &mut List<u8>, name: &Option<Name>) -> Result<(), OutOfMemory>
     ensures { OnOk result (out.new ≡ out.old ++ wires_of (name_or_none name.now)) }
 {

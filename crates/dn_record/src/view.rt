@@ -5,7 +5,6 @@ use crate::error::{RecordError, RecordFault};
 use crate::header::read_header;
 use crate::parts::parts_of_stored;
 
-// The place of the data.
 pub(crate) const DATA_PLACE: usize = 24;
 
 /// A stored record that is lent from its bytes (MS-DNSP 2.3.2.2).

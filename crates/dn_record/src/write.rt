@@ -50,7 +50,6 @@ fn add_header(out: &mut List<u8>, item: &Record, len: u16) -> Result<(), OutOfMe
     add_numbers(out, item)
 }
 
-// Adds the four numbers at the header's end.
 fn add_numbers(out: &mut List<u8>, item: &Record) -> Result<(), OutOfMemory>
     ensures { OnOk result (out.new ≡ out.old ++ (four_little item.now.serial ++ (four_big item.now.ttl ++ (four_little item.now.reserved ++ four_little item.now.hour)))) }
 {
@@ -60,7 +59,6 @@ fn add_numbers(out: &mut List<u8>, item: &Record) -> Result<(), OutOfMemory>
     out.extend(&number::four_little(item.hour))
 }
 
-// Adds the stored data that have these parts.
 fn add_stored(out: &mut List<u8>, parts: &DataParts<'_>) -> Result<(), OutOfMemory>
     ensures { OnOk result (out.new ≡ out.old ++ stored_of_parts parts.now) }
 {
@@ -70,7 +68,6 @@ fn add_stored(out: &mut List<u8>, parts: &DataParts<'_>) -> Result<(), OutOfMemo
     add_count(out, &parts.second)
 }
 
-// Adds a counted name, where there is one.
 fn add_count(out: &mut List<u8>, name: &Option<Name>) -> Result<(), OutOfMemory>
     ensures { OnOk result (out.new ≡ out.old ++ counteds_of (name_or_none name.now)) }
 {
@@ -80,7 +77,6 @@ fn add_count(out: &mut List<u8>, name: &Option<Name>) -> Result<(), OutOfMemory>
     }
 }
 
-// Adds a counted name.
 fn push_count(out: &mut List<u8>, name: &Name) -> Result<(), OutOfMemory>
     ensures bytes { OnOk result (out.new ≡ out.old ++ counted_of name.now) }
     ensures named { IsName name.now }
