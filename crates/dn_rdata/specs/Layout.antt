@@ -4,21 +4,21 @@ use Rattle.dn_name.specs.Name.{Labels, IsName, wire_of}
 use Rattle.dn_name.specs.PlainFault.{IsPlainFault}
 use Rattle.dn_name.specs.declared.error.NameFault.{NameFault}
 use Rattle.dn_rdata.specs.Record.{bytes_before_names, bytes_behind_names, names_in}
-use Rattle.dn_rdata.specs.Types.{A, NS, CNAME, SOA, PTR, MX, AAAA, SRV}
+use Rattle.dn_rdata.specs.Types.{A, NS, CNAME, SOA, PTR, HINFO, MX, TXT, AAAA, SRV}
 use Rattle.dn_rdata.specs.declared.parts.Part.{Part}
 use Rattle.dn_rdata.specs.declared.parts.Part.TheVariants.{Bytes, OneName, OneText, Texts, Rest}
 
 -- The parts of a type's data, in their order on the wire. A tombstone's are the 8 bytes of its time, an SOA's five numbers
--- are one part, and so are the three of an SRV. Types 13 and 16 are HINFO and TXT.
+-- are one part, and so are the three of an SRV.
 abbrev pub parts_of : ℕ → List Part
 parts_of rtype =
     if nat_eq rtype 0 then Bytes 8 ∷ []
     else (if nat_eq rtype A then Bytes 4 ∷ []
     else (if nat_eq rtype NS || nat_eq rtype CNAME || nat_eq rtype PTR then OneName ∷ []
     else (if nat_eq rtype SOA then OneName ∷ (OneName ∷ (Bytes 20 ∷ []))
-    else (if nat_eq rtype 13 then OneText ∷ (OneText ∷ [])
+    else (if nat_eq rtype HINFO then OneText ∷ (OneText ∷ [])
     else (if nat_eq rtype MX then Bytes 2 ∷ (OneName ∷ [])
-    else (if nat_eq rtype 16 then Texts ∷ []
+    else (if nat_eq rtype TXT then Texts ∷ []
     else (if nat_eq rtype AAAA then Bytes 16 ∷ []
     else (if nat_eq rtype SRV then Bytes 6 ∷ (OneName ∷ [])
     else Rest ∷ []))))))))

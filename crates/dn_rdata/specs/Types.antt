@@ -1,4 +1,5 @@
--- The types of records and their class, and the types that are ever answered (RFC 1035 3.2.2 and 3.2.3, RFC 3596 2.1, RFC 2782, RFC 5936 2).
+-- The types of records and their class, and the types that are ever answered (RFC 1035 3.2.2 and 3.2.3, RFC 3596 2.1, RFC 2782,
+-- RFC 4701, RFC 5936 2).
 use Rattle.std.specs.Prelude.{ℕ, Bool, nat_eq, List, [], ◌∷◌}
 use Rattle.std.specs.List.{list_any}
 
@@ -22,9 +23,17 @@ SOA = 6
 abbrev pub PTR : ℕ
 PTR = 12
 
+-- what a computer and its system are
+abbrev pub HINFO : ℕ
+HINFO = 13
+
 -- a server that takes mail
 abbrev pub MX : ℕ
 MX = 15
+
+-- any strings
+abbrev pub TXT : ℕ
+TXT = 16
 
 -- an address of IPv6
 abbrev pub AAAA : ℕ
@@ -33,6 +42,10 @@ AAAA = 28
 -- a server of a service
 abbrev pub SRV : ℕ
 SRV = 33
+
+-- who registered an address
+abbrev pub DHCID : ℕ
+DHCID = 49
 
 -- in a question: a transfer of the zone
 abbrev pub AXFR : ℕ
@@ -46,9 +59,9 @@ ANY = 255
 abbrev pub IN : ℕ
 IN = 1
 
--- the types that are ever put into a reply: those of records above, and HINFO 13, TXT 16 and DHCID 49
+-- the types that are ever put into a reply
 abbrev pub answerable_types : List ℕ
-answerable_types = A ∷ NS ∷ CNAME ∷ SOA ∷ PTR ∷ 13 ∷ MX ∷ 16 ∷ AAAA ∷ SRV ∷ 49 ∷ []
+answerable_types = A ∷ NS ∷ CNAME ∷ SOA ∷ PTR ∷ HINFO ∷ MX ∷ TXT ∷ AAAA ∷ SRV ∷ DHCID ∷ []
 
 unfoldable pub answerable : ℕ → Bool
 answerable rtype = list_any (nat_eq rtype) answerable_types

@@ -3,7 +3,7 @@ use Rattle.std.specs.Prelude.{◌≡◌, ℕ, ◌<◌, ◌^◌, Bool, true, fals
 use Rattle.std.specs.Int.{w16, to_be_bytes}
 use Rattle.dn_name.specs.Name.{Labels, IsName, wire_of}
 use Rattle.dn_rdata.specs.Layout.{AreTexts}
-use Rattle.dn_rdata.specs.Types.{A, NS, CNAME, SOA, PTR, MX, AAAA, SRV}
+use Rattle.dn_rdata.specs.Types.{A, NS, CNAME, SOA, PTR, HINFO, MX, TXT, AAAA, SRV}
 use Rattle.dn_rdata.specs.declared.record.Record.{Record}
 use Rattle.dn_rdata.specs.declared.views.DataView.{DataView}
 use Rattle.dn_rdata.specs.declared.views.DataView.TheVariants.{Address, OneName, Soa, Mx, Srv, Strings, Other}
@@ -20,9 +20,9 @@ address_len rtype = if nat_eq rtype A then 4 else 16
 abbrev pub is_one_name : ℕ → Bool
 is_one_name rtype = nat_eq rtype NS || nat_eq rtype CNAME || nat_eq rtype PTR
 
--- data that are strings: HINFO and TXT
+-- data that are strings
 abbrev pub is_strings : ℕ → Bool
-is_strings rtype = nat_eq rtype 13 || nat_eq rtype 16
+is_strings rtype = nat_eq rtype HINFO || nat_eq rtype TXT
 
 -- data that are more than one part of different kinds
 abbrev pub is_parted : ℕ → Bool

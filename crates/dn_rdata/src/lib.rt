@@ -26,6 +26,8 @@ pub use order::{
 pub use parts::{Part, parts_of};
 pub use record::Record;
 pub use stored::stored_len;
-pub use types::{A, AAAA, ANY, AXFR, CNAME, IN, MX, NS, PTR, SOA, SRV, answerable};
+pub use types::{
+    A, AAAA, ANY, AXFR, CNAME, DHCID, HINFO, IN, MX, NS, PTR, SOA, SRV, TXT, answerable,
+};
 pub use views::DataView;
 pub use wire::push_wire;

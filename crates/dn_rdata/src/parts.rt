@@ -1,7 +1,7 @@
 ghost use Rattle.std.specs.Prelude.{◌≡◌};
 ghost use Rattle.dn_rdata.specs.Layout.{parts_of};
 
-use crate::types::{A, AAAA, CNAME, MX, NS, PTR, SOA, SRV};
+use crate::types::{A, AAAA, CNAME, HINFO, MX, NS, PTR, SOA, SRV, TXT};
 
 /// A part of a record's data.
 #[derive(Clone, Copy, Debug, PartialEq, Eq)]
@@ -28,9 +28,9 @@ pub fn parts_of(rtype: u16) -> &'static [Part]
         A => &[Part::Bytes(4)],
         NS | CNAME | PTR => &[Part::OneName],
         SOA => &[Part::OneName, Part::OneName, Part::Bytes(20)],
-        13 => &[Part::OneText, Part::OneText],
+        HINFO => &[Part::OneText, Part::OneText],
         MX => &[Part::Bytes(2), Part::OneName],
-        16 => &[Part::Texts],
+        TXT => &[Part::Texts],
         AAAA => &[Part::Bytes(16)],
         SRV => &[Part::Bytes(6), Part::OneName],
         _ => &[Part::Rest],

@@ -15,10 +15,13 @@ pub struct Record {
     pub rtype: u16,
     /// How far the record is trusted (MS-DNSP 2.3.2.2).
     pub rank: u8,
+    /// Kept, and not acted on.
     pub flags: u16,
+    /// The serial number of the zone when the record was written (MS-DNSP 2.3.2.2).
     pub serial: u32,
     /// The time to live, in seconds.
     pub ttl: u32,
+    /// Kept, and not acted on.
     pub reserved: u32,
     /// The time stamp in hours since 1601-01-01 00:00 UTC, 0 for a record that never ages.
     pub hour: u32,

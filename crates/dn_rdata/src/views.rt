@@ -8,7 +8,7 @@ ghost use Rattle.dn_rdata.specs.declared.parts.Part.TheVariants as kinds;
 
 use crate::check::behind_name;
 use crate::record::Record;
-use crate::types::{A, AAAA, CNAME, MX, NS, PTR, SOA, SRV};
+use crate::types::{A, AAAA, CNAME, HINFO, MX, NS, PTR, SOA, SRV, TXT};
 
 /// The parts of a record's data (RFC 1035 3.3). Names are their bytes on the wire, each ended by its zero byte.
 #[derive(Clone, Copy, Debug, PartialEq, Eq)]
@@ -62,7 +62,7 @@ fn view_of(rtype: u16, rdata: &[u8]) -> DataView<'_>
         SOA => view_of_soa(rdata),
         MX => view_of_mx(rdata),
         SRV => view_of_srv(rdata),
-        13 | 16 => DataView::Strings(rdata),
+        HINFO | TXT => DataView::Strings(rdata),
         _ => DataView::Other(rdata),
     }
 }

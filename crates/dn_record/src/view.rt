@@ -47,18 +47,21 @@ impl<'a> RecordView<'a> {
         self.rtype
     }
 
+    /// How far the record is trusted (MS-DNSP 2.3.2.2).
     pub fn rank(&self) -> u8
         ensures { result ≡ self.now.rank }
     {
         self.rank
     }
 
+    /// Kept as it is stored, and not acted on.
     pub fn flags(&self) -> u16
         ensures { result ≡ self.now.flags }
     {
         self.flags
     }
 
+    /// The serial number of the zone when the record was written (MS-DNSP 2.3.2.2).
     pub fn serial(&self) -> u32
         ensures { result ≡ self.now.serial }
     {
@@ -72,6 +75,7 @@ impl<'a> RecordView<'a> {
         self.ttl
     }
 
+    /// Kept as it is stored, and not acted on.
     pub fn reserved(&self) -> u32
         ensures { result ≡ self.now.reserved }
     {
