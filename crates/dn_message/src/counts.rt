@@ -1,4 +1,3 @@
-// How many entries each section of a message has.
 #[derive(Clone, Copy)]
 pub(crate) struct Counts {
     pub(crate) questions: u16,

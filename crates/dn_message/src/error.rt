@@ -81,7 +81,6 @@ pub(crate) fn name_fault(error: NameError) -> FormError
     }
 }
 
-// The fault of bytes behind the last field, the first of which stands at the place.
 pub(crate) fn trailing(place: usize) -> FormError {
     FormError {
         place,

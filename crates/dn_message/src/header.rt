@@ -9,7 +9,6 @@ use crate::counts::Counts;
 use crate::error::{FormError, FormFault};
 use crate::number::{check_u16, u16_at};
 
-// What the header of a query says: its number, its flags, and how many additional records there are.
 #[derive(Clone, Copy)]
 pub(crate) struct QueryHeader {
     pub(crate) id: u16,
@@ -17,8 +16,7 @@ pub(crate) struct QueryHeader {
     pub(crate) additional: u16,
 }
 
-// Reads the header of a query. Each number is read and judged before the next: so a wrong count is answered also where
-// the message ends behind it.
+// Each number is read and judged before the next: so a wrong count is answered also where the message ends behind it.
 pub(crate) fn read_query_header(bytes: &[u8]) -> Result<QueryHeader, FormError>
     ensures exact { Exact (IsQueryHeader bytes.now) result }
     ensures within { OnOk result (12 ≤ length bytes.now) }
@@ -34,7 +32,6 @@ pub(crate) fn read_query_header(bytes: &[u8]) -> Result<QueryHeader, FormError>
     })
 }
 
-// Whether there are one question, no answer and no authority record.
 fn check_query_counts(bytes: &[u8]) -> Result<(), FormError>
     requires { 4 ≤ length bytes.now }
     ensures stand { OnOk result (IsQueryCounts bytes.now) }
@@ -46,7 +43,6 @@ fn check_query_counts(bytes: &[u8]) -> Result<(), FormError>
     check_u16(bytes, 8, 0, FormFault::SectionCount)
 }
 
-// What the header of a reply says: its number, its flags and its counts.
 #[derive(Clone, Copy)]
 pub(crate) struct ReplyHeader {
     pub(crate) id: u16,
@@ -54,7 +50,7 @@ pub(crate) struct ReplyHeader {
     pub(crate) counts: Counts,
 }
 
-// Reads the header of a reply. That the message isn't one is answered also where it ends behind the flags.
+// That the message is no reply is answered also where it ends behind the flags.
 pub(crate) fn read_reply_header(bytes: &[u8]) -> Result<ReplyHeader, FormError>
     ensures exact { Exact (IsReplyHeader bytes.now) result }
     ensures within { OnOk result (12 ≤ length bytes.now) }
@@ -65,7 +61,6 @@ pub(crate) fn read_reply_header(bytes: &[u8]) -> Result<ReplyHeader, FormError>
     Ok(ReplyHeader { id, flags, counts })
 }
 
-// Reads the flags, which say that the message is a reply.
 fn read_reply_flags(bytes: &[u8]) -> Result<u16, FormError>
     requires { 2 ≤ length bytes.now }
     ensures exact { Exact (AreReplyFlags bytes.now) result }
@@ -81,7 +76,6 @@ fn read_reply_flags(bytes: &[u8]) -> Result<u16, FormError>
     }
 }
 
-// Reads the four counts behind the flags.
 fn read_counts(bytes: &[u8]) -> Result<Counts, FormError>
     requires { 4 ≤ length bytes.now }
     ensures exact { Exact (AreCounts bytes.now) result }

@@ -7,18 +7,16 @@ ghost use Rattle.dn_message.specs.Fields.{four_bytes, two_bytes};
 
 use crate::error::{FormError, FormFault, cut};
 
-// The number of two bytes at the front, and the bytes behind it.
 pub(crate) fn first_u16(bytes: &[u8]) -> Option<(u16, &[u8])>
     ensures found { IfSome result (λ found. bytes.now ≡ two_bytes found.0 ++ found.1.now) }
     ensures none { IfNone result (length bytes.now < 2) }
 {
     match bytes {
-        [high, low, rest @ ..] => Some((256 * u16::from(*high) + u16::from(*low), rest)),
+        [high, low, rest @ ..] => Some((u16::from_be_bytes([*high, *low]), rest)),
         _ => None,
     }
 }
 
-// The number of four bytes at the front, and the bytes behind it.
 pub(crate) fn first_u32(bytes: &[u8]) -> Option<(u32, &[u8])>
     ensures found { IfSome result (λ found. bytes.now ≡ four_bytes found.0 ++ found.1.now) }
     ensures none { IfNone result (length bytes.now < 4) }
@@ -28,7 +26,6 @@ pub(crate) fn first_u32(bytes: &[u8]) -> Option<(u32, &[u8])>
     Some((65536 * u32::from(high) + u32::from(low), rest))
 }
 
-// The number of two bytes at a place of the message.
 pub(crate) fn u16_at(bytes: &[u8], at: usize) -> Result<u16, FormError>
     requires { at ≤ length bytes.now }
     ensures exact { Exact (λ (number : ℕ). Stands bytes.now at (two_bytes number) (at + 2)) result }

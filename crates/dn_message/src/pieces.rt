@@ -13,7 +13,6 @@ use crate::writing::{bytes_of_kind, put, put_name};
 use dn_name::Name;
 use dn_rdata::IN;
 
-// How many bytes a question takes.
 pub(crate) fn question_len(name: &Name) -> usize
     ensures len { (qtype qclass : ℕ) → result ≡ length (question_bytes (record { name = name.now; qtype = qtype; qclass = qclass })) }
     ensures named { IsName name.now }
@@ -21,7 +20,6 @@ pub(crate) fn question_len(name: &Name) -> usize
     name.wire_len() + 4
 }
 
-// How many bytes a row takes.
 pub(crate) fn row_len(owner: &Name, rdata: &[u8]) -> usize
     requires { length rdata.now < 2 ^ 16 }
     ensures len { (rtype rclass ttl : ℕ) → result ≡ length (row_bytes (record { name = owner.now; rtype = rtype; rclass = rclass; ttl = ttl; rdata = rdata.now })) }
@@ -30,7 +28,6 @@ pub(crate) fn row_len(owner: &Name, rdata: &[u8]) -> usize
     owner.wire_len() + 10 + rdata.len()
 }
 
-// Writes a question of class IN where there is room for it, and answers the place behind it.
 pub(crate) fn put_question(out: &mut [u8], at: usize, name: &Name, qtype: u16) -> usize
     requires { at + length (question_bytes (record { name = name.now; qtype = qtype; qclass = IN })) ≤ length out.old }
     ensures appends { Appends at out.old (question_bytes (record { name = name.now; qtype = qtype; qclass = IN })) result out.new }
@@ -40,7 +37,6 @@ pub(crate) fn put_question(out: &mut [u8], at: usize, name: &Name, qtype: u16) -
     put(out, at, &bytes_of_kind(qtype, IN))
 }
 
-// Writes a row of class IN where there is room for it, and answers the place behind it.
 pub(crate) fn put_row(
     out: &mut [u8],
     at: usize,
@@ -63,36 +59,45 @@ pub(crate) fn put_row(
 fn bytes_of_fields(rtype: u16, ttl: u32, len: u16) -> [u8; 10]
     ensures { result ≡ fields rtype IN ttl len }
 {
+    let [type_high, type_low] = rtype.to_be_bytes();
+    let [class_high, class_low] = IN.to_be_bytes();
+    let [ttl_first, ttl_second, ttl_third, ttl_last] = ttl.to_be_bytes();
+    let [len_high, len_low] = len.to_be_bytes();
     [
-        (rtype / 256) as u8,
-        (rtype % 256) as u8,
-        0,
-        1,
-        (ttl / 16777216) as u8,
-        (ttl / 65536 % 256) as u8,
-        (ttl / 256 % 256) as u8,
-        (ttl % 256) as u8,
-        (len / 256) as u8,
-        (len % 256) as u8,
+        type_high, type_low, class_high, class_low, ttl_first, ttl_second, ttl_third, ttl_last,
+        len_high, len_low,
     ]
 }
 
-// The header of a reply with so many pieces.
+// The flags of a reply. The rest of them are 0.
+fn flags_of(head: ReplyHead) -> u16
+    ensures { result ≡ flags_of (begun head) }
+{
+    let answer = 32768 + 1024 * u16::from(head.aa) + 512 * u16::from(head.tc);
+    answer + 256 * u16::from(head.rd) + u16::from(head.rcode.number())
+}
+
 pub(crate) fn bytes_of_header(head: ReplyHead, counts: Counts) -> [u8; 12]
     ensures { result ≡ header_with head.id (flags_of (begun head)) counts }
 {
+    let [id_high, id_low] = head.id.to_be_bytes();
+    let [flags_high, flags_low] = flags_of(head).to_be_bytes();
+    let [questions_high, questions_low] = counts.questions.to_be_bytes();
+    let [answer_high, answer_low] = counts.answer.to_be_bytes();
+    let [authority_high, authority_low] = counts.authority.to_be_bytes();
+    let [additional_high, additional_low] = counts.additional.to_be_bytes();
     [
-        (head.id / 256) as u8,
-        (head.id % 256) as u8,
-        128 + 4 * u8::from(head.aa) + 2 * u8::from(head.tc) + u8::from(head.rd),
-        head.rcode.number(),
-        (counts.questions / 256) as u8,
-        (counts.questions % 256) as u8,
-        (counts.answer / 256) as u8,
-        (counts.answer % 256) as u8,
-        (counts.authority / 256) as u8,
-        (counts.authority % 256) as u8,
-        (counts.additional / 256) as u8,
-        (counts.additional % 256) as u8,
+        id_high,
+        id_low,
+        flags_high,
+        flags_low,
+        questions_high,
+        questions_low,
+        answer_high,
+        answer_low,
+        authority_high,
+        authority_low,
+        additional_high,
+        additional_low,
     ]
 }

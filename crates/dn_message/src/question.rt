@@ -8,7 +8,6 @@ ghost use Rattle.dn_message.specs.Reading.{IsTypeAndClass};
 use crate::error::{FormError, cut};
 use crate::number::first_u16;
 
-// Reads the type and the class of a question at a place of the message.
 pub(crate) fn read_type_and_class(bytes: &[u8], at: usize) -> Result<(u16, u16), FormError>
     requires { at ≤ length bytes.now }
     ensures exact { Exact (IsTypeAndClass bytes.now at) result }
@@ -21,7 +20,6 @@ pub(crate) fn read_type_and_class(bytes: &[u8], at: usize) -> Result<(u16, u16),
     }
 }
 
-// The type and the class at the front.
 fn first_type_and_class(bytes: &[u8]) -> Option<(u16, u16)>
     ensures found { IfSome result (λ found. (back : List ℕ) × (bytes.now ≡ (two_bytes found.0 ++ two_bytes found.1) ++ back)) }
     ensures none { IfNone result (length bytes.now < 4) }

@@ -15,7 +15,6 @@ use crate::reply::Question;
 use dn_io::List;
 use std::alloc::Global;
 
-// Reads so many questions from a place on, and answers the place behind them.
 pub(crate) fn read_questions(
     alloc: Global,
     bytes: &[u8],
@@ -36,7 +35,6 @@ pub(crate) fn read_questions(
     Ok((questions, place))
 }
 
-// Reads one question, and answers the place behind it.
 fn read_question(bytes: &[u8], at: usize) -> Result<(Question, usize), FormError>
     requires { at ≤ length bytes.now }
     ensures exact { Exact (λ (found : Asked × ℕ). IsQuestion bytes.now at found.0 found.1) result }

@@ -15,7 +15,6 @@ use std::alloc::Global;
 // The type whose data are strings (RFC 1035 3.3.14).
 const TXT: u16 = 16;
 
-// Why a part wasn't added.
 #[derive(Clone, Copy)]
 enum PartError {
     // It doesn't lie there.
@@ -86,7 +85,6 @@ fn add_parts(
     }
 }
 
-// Adds one part, and answers the place behind it.
 fn add_part(
     bytes: &[u8],
     at: usize,
@@ -108,7 +106,6 @@ fn add_part(
     }
 }
 
-// Adds so many bytes.
 fn add_bytes(bytes: &[u8], at: usize, count: usize, out: &mut List<u8>) -> Result<usize, PartError>
     requires { at ≤ length bytes.now }
     ensures grows { (end : ℕ) → Grows (λ piece next. (piece, next)) (λ (found : Seq ℕ × ℕ). Lies bytes.now at end (kinds.Bytes count) found.0 found.1) out.old out.new result }
@@ -139,7 +136,6 @@ fn add_name(bytes: &[u8], at: usize, out: &mut List<u8>) -> Result<usize, PartEr
     }
 }
 
-// Adds a string.
 fn add_text(bytes: &[u8], at: usize, out: &mut List<u8>) -> Result<usize, PartError>
     requires { at ≤ length bytes.now }
     ensures grows { (end : ℕ) → Grows (λ piece next. (piece, next)) (λ (found : Seq ℕ × ℕ). Lies bytes.now at end kinds.OneText found.0 found.1) out.old out.new result }
@@ -169,7 +165,6 @@ fn add_texts(bytes: &[u8], at: usize, end: usize, out: &mut List<u8>) -> Result<
     }
 }
 
-// Adds the bytes up to the end.
 fn add_rest(bytes: &[u8], at: usize, end: usize, out: &mut List<u8>) -> Result<usize, PartError>
     requires at { at ≤ length bytes.now }
     requires end { end ≤ length bytes.now }

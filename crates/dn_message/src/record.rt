@@ -34,7 +34,6 @@ pub(crate) fn pass_record(bytes: &[u8], at: usize) -> Result<(RecordHead, usize)
     Ok((head, next))
 }
 
-// The place behind data of so many bytes.
 pub(crate) fn behind_data(bytes: &[u8], place: usize, len: u16) -> Result<usize, FormError>
     requires { place ≤ length bytes.now }
     ensures found { IfOk result (λ next. next ≡ place + len) }
@@ -48,7 +47,6 @@ pub(crate) fn behind_data(bytes: &[u8], place: usize, len: u16) -> Result<usize,
     Ok(place + len)
 }
 
-// Reads what stands before a record's data, and answers the place of these.
 pub(crate) fn read_head(bytes: &[u8], at: usize) -> Result<(RecordHead, usize), FormError>
     requires { at ≤ length bytes.now }
     ensures exact { Exact (λ (found : RecordHead × ℕ). IsHead bytes.now at found.0 found.1) result }
@@ -63,7 +61,6 @@ pub(crate) fn read_head(bytes: &[u8], at: usize) -> Result<(RecordHead, usize), 
     }
 }
 
-// The fields between a record's name and its data.
 fn first_fields(name: Name, bytes: &[u8]) -> Option<RecordHead>
     ensures found { IfSome result (λ head. ((back : List ℕ) × (bytes.now ≡ fields head.rtype head.rclass head.ttl head.len ++ back)) × (head.name ≡ name)) }
     ensures none { IfNone result (length bytes.now < 10) }
@@ -81,7 +78,6 @@ fn first_fields(name: Name, bytes: &[u8]) -> Option<RecordHead>
     })
 }
 
-// Reads the name at a place of the message, and answers the place behind it.
 pub(crate) fn read_name(bytes: &[u8], at: usize) -> Result<(Name, usize), FormError>
     requires { at ≤ length bytes.now }
     ensures exact { Exact (λ (found : Labels × ℕ). Spelled bytes.now at found.0 found.1) result }
@@ -94,7 +90,6 @@ pub(crate) fn read_name(bytes: &[u8], at: usize) -> Result<(Name, usize), FormEr
     }
 }
 
-// The type of the record at a place of the message, where the message has it.
 pub(crate) fn type_at(bytes: &[u8], at: usize) -> Option<u16>
     requires { at ≤ length bytes.now }
 {

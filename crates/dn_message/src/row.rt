@@ -14,7 +14,6 @@ use dn_io::List;
 use dn_rdata::{IN, Part, parts_of};
 use std::alloc::Global;
 
-// Reads so many records from a place on, and answers the place behind them.
 pub(crate) fn read_rows(
     alloc: Global,
     bytes: &[u8],
@@ -35,7 +34,6 @@ pub(crate) fn read_rows(
     Ok((rows, place))
 }
 
-// Reads one record, and answers the place behind it.
 fn read_row(alloc: Global, bytes: &[u8], at: usize) -> Result<(Rr, usize), ReadError>
     requires { at ≤ length bytes.now }
     ensures exact { Reads (λ (found : Row × ℕ). IsRr typed_data bytes.now at found.0 found.1) result }

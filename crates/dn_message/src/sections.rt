@@ -13,7 +13,6 @@ use crate::rr::Rr;
 use dn_io::List;
 use std::alloc::Global;
 
-// What the sections of a message hold.
 #[derive(Drop)]
 pub(crate) struct Sections {
     pub(crate) questions: List<Question>,

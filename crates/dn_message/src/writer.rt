@@ -37,7 +37,6 @@ pub enum Section {
     Additional,
 }
 
-// The counts with one row more.
 fn one_more(counts: Counts, section: Section) -> Counts
     requires { MayGrow counts section }
     ensures { result ≡ one_more counts section }
@@ -168,7 +167,6 @@ impl<'b> ReplyWriter<'b> {
         place
     }
 
-    // How many bytes there are behind the pieces.
     fn room(&self) -> usize
         ensures { result ≡ size self.now - self.now.place }
     {

@@ -30,7 +30,6 @@ pub fn write_query(query: &Query, out: &mut [u8]) -> Result<usize, NoRoom>
     Ok(put_query(query, out))
 }
 
-// How many bytes a query takes.
 fn query_len(query: &Query) -> usize
     ensures len { result ≡ length (query_bytes query.now) }
     ensures most { result ≤ 282 }
@@ -43,7 +42,6 @@ fn query_len(query: &Query) -> usize
     }
 }
 
-// Writes a query where there is room for it.
 fn put_query(query: &Query, out: &mut [u8]) -> usize
     requires { length (query_bytes query.now) ≤ length out.old }
     ensures appends { Appends 0 out.old (query_bytes query.now) result out.new }
@@ -66,7 +64,7 @@ fn bytes_of_header(id: u16, rd: bool, opt: Option<Opt>) -> [u8; 12]
         Some(_) => 1,
         None => 0,
     };
-    let (high, low) = ((id / 256) as u8, (id % 256) as u8);
+    let [high, low] = id.to_be_bytes();
     [high, low, u8::from(rd), 0, 0, 1, 0, 0, 0, 0, 0, additional]
 }
 
@@ -74,12 +72,9 @@ fn bytes_of_header(id: u16, rd: bool, opt: Option<Opt>) -> [u8; 12]
 pub(crate) fn bytes_of_kind(qtype: u16, qclass: u16) -> [u8; 4]
     ensures { result ≡ kind_bytes qtype qclass }
 {
-    [
-        (qtype / 256) as u8,
-        (qtype % 256) as u8,
-        (qclass / 256) as u8,
-        (qclass % 256) as u8,
-    ]
+    let [type_high, type_low] = qtype.to_be_bytes();
+    let [class_high, class_low] = qclass.to_be_bytes();
+    [type_high, type_low, class_high, class_low]
 }
 
 // The OPT record, with its name.
@@ -87,11 +82,10 @@ fn bytes_of_opt(opt: Opt) -> [u8; 11]
     ensures bytes { result ≡ opt_bytes opt }
     ensures small { opt.version < 256 }
 {
-    let (high, low) = ((opt.size / 256) as u8, (opt.size % 256) as u8);
+    let [high, low] = opt.size.to_be_bytes();
     [0, 0, 41, high, low, 0, opt.version, 0, 0, 0, 0]
 }
 
-// Writes a name where there is room for it, and answers the place behind it.
 pub(crate) fn put_name(out: &mut [u8], at: usize, name: &Name) -> usize
     requires { at + wire_len name.now ≤ length out.old }
     ensures appends { Appends at out.old (wire_of name.now) result out.new }
@@ -103,7 +97,6 @@ pub(crate) fn put_name(out: &mut [u8], at: usize, name: &Name) -> usize
     }
 }
 
-// Writes bytes where there is room for them, and answers the place behind them.
 pub(crate) fn put(out: &mut [u8], at: usize, piece: &[u8]) -> usize
     requires { at + length piece.now ≤ length out.old }
     ensures appends { Appends at out.old piece.now result out.new }
@@ -113,7 +106,6 @@ pub(crate) fn put(out: &mut [u8], at: usize, piece: &[u8]) -> usize
     at + piece.len()
 }
 
-// Copies bytes into the buffer at a place.
 fn copy_into(out: &mut [u8], at: usize, piece: &[u8])
     requires { at + length piece.now ≤ length out.old }
     ensures { out.new ≡ take at out.old ++ piece.now ++ drop (at + length piece.now) out.old }
