@@ -25,7 +25,6 @@ fn is_refused(query: &Query) -> bool
     query.signed || query.qclass != IN || query.qtype == AXFR
 }
 
-// Writes the reply of a zone to a query.
 fn zone_reply(
     alloc: Global,
     zone: &Zone,
@@ -72,7 +71,6 @@ impl World {
         }
     }
 
-    // The zone that a query reaches.
     #[tactic(auto, unfolding(crate::specs::Datagram::reached))]
     fn reached(&self, at: usize, query: &Query) -> Option<&Zone>
         ensures { option_copied result ≡ reached self.now at query.now }
