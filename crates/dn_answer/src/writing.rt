@@ -58,7 +58,6 @@ fn begin_answer<'b>(query: &Query, reply: &AnswerValue, out: &'b mut [u8]) -> Re
     }
 }
 
-// Writes the rows of a section.
 fn write_rows(writer: &mut ReplyWriter<'_>, section: Section, rows: &[Rr])
     requires { Fits writer.old section rows.now }
     ensures same_reference { writer.new.out.ghost_name ≡ writer.old.out.ghost_name }
