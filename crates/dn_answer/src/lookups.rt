@@ -1,14 +1,14 @@
 ghost use Rattle.std.specs.Prelude.{◌≡◌, filter, IfOk, Some};
 ghost use Rattle.dn_answer.specs.Below.{has_row, is_key_under};
-ghost use Rattle.dn_answer.specs.Rows.{first_row, has_some, of_name, of_type, rows_of};
+ghost use Rattle.dn_store.specs.Rows.{first_row, has_some, of_name, of_type, rows_of};
 ghost use Rattle.dn_answer.specs.Walk.{name_exists};
 ghost use Rattle.dn_store.specs.Table.{is_above};
 ghost use Rattle.dn_store.specs.declared.unit.UnitKey.TheVariants.{Node};
 
-use crate::rows::{Owned, of_type, push_node};
+use crate::rows::{of_type, push_node};
 use dn_io::{Duplicate, List, OutOfMemory};
 use dn_name::Name;
-use dn_store::{Table, Unit, UnitKey, rows_at, rows_in};
+use dn_store::{Owned, Table, Unit, UnitKey, rows_at, rows_in};
 use std::alloc::Global;
 use std::marker::Model;
 
@@ -21,8 +21,8 @@ pub struct Rows<'a> {
 
 impl<'a> Model for Rows<'a> {
     ghost use Rattle.std.specs.Prelude.{List as Seq};
-    ghost use Rattle.dn_answer.specs.Rows.{rows_of};
-    ghost use Rattle.dn_answer.specs.declared.rows.Owned as rows;
+    ghost use Rattle.dn_store.specs.Rows.{rows_of};
+    ghost use Rattle.dn_store.specs.declared.owned.Owned as rows;
 
     ghost Value = { Seq rows.Owned };
 
