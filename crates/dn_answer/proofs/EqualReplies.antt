@@ -13,12 +13,12 @@ use Rattle.dn_store.specs.declared.unit.Write.{Write}
 use Rattle.dn_store.specs.Contents.{rows_in}
 use Rattle.dn_store.specs.Table.{TableState, write_of}
 use Rattle.dn_answer.specs.declared.reply.AnswerValue.{AnswerValue}
-use Rattle.dn_answer.specs.declared.rows.Owned.{Owned}
+use Rattle.dn_store.specs.declared.owned.Owned.{Owned}
 use Rattle.dn_answer.specs.declared.walk.Walk.{Walk}
 use Rattle.dn_answer.specs.Alike.{EqualAnswerAlike, blank, blank_row, blanked, contents}
 use Rattle.dn_answer.specs.Answer.{answer_of, reply_of_rows, owner_of, refused, reply_of_walk, rr_of, soa_data, with_primary, serial_of}
 use Rattle.dn_answer.specs.Glue.{glue}
-use Rattle.dn_answer.specs.Rows.{has_some, of_name, of_type, rows_of, rows_of_key}
+use Rattle.dn_store.specs.Rows.{has_some, of_name, of_type, rows_of, rows_of_key}
 use Rattle.dn_answer.specs.Size.{behind_primary, fitted, reply_size, rr_size, truncated, without_additional}
 use Rattle.dn_answer.specs.Walk.{walk}
 

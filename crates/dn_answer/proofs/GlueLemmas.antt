@@ -3,7 +3,7 @@ use Rattle.std.proofs.Common.{◌≡◌, ℕ, suc, ◌+◌, ◌<◌, List, [], �
 use Rattle.std.proofs.lemmas.List.{append-nil}
 use Rattle.dn_name.specs.Name.{Labels}
 use Rattle.dn_message.specs.declared.rr.Rr.{Rr}
-use Rattle.dn_answer.specs.declared.rows.Owned.{Owned}
+use Rattle.dn_store.specs.declared.owned.Owned.{Owned}
 use Rattle.dn_answer.specs.Glue.{glue, server_of}
 use Rattle.dn_answer.specs.Glue.Turn.{PutsGlue}
 

@@ -15,8 +15,8 @@ use Rattle.dn_store.specs.Contents.{rows_at, rows_in, rows_of_unit}
 use Rattle.dn_store.specs.Table.{KeysGrow, unit_at}
 use Rattle.dn_store.specs.Value.{key_order}
 use Rattle.dn_store.proofs.CallerLemmas.{IsAfter, all_then, apart_first, key_at}
-use Rattle.dn_answer.specs.declared.rows.Owned.{Owned}
-use Rattle.dn_answer.specs.Rows.{first_row, has_some, of_name, of_type, owned_by, rows_of, rows_of_key, rows_of_node}
+use Rattle.dn_store.specs.declared.owned.Owned.{Owned}
+use Rattle.dn_store.specs.Rows.{first_row, has_some, of_name, of_type, owned_by, rows_of, rows_of_key, rows_of_node}
 use Rattle.dn_answer.proofs.NamesBelow.{same_order}
 
 pub first_is : (rows : List Owned) → first_row rows ≡ slice_get rows 0

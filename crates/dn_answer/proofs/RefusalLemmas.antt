@@ -8,10 +8,10 @@ use Rattle.dn_message.specs.declared.rcode.Rcode.{Rcode}
 use Rattle.dn_message.specs.declared.rcode.Rcode.TheVariants.{NoError, NxDomain, Refused}
 use Rattle.dn_store.specs.Table.{TableState}
 use Rattle.dn_answer.specs.declared.reply.AnswerValue.{AnswerValue}
-use Rattle.dn_answer.specs.declared.rows.Owned.{Owned}
+use Rattle.dn_store.specs.declared.owned.Owned.{Owned}
 use Rattle.dn_answer.specs.declared.walk.Walk.{Walk}
 use Rattle.dn_answer.specs.Answer.{answer_of, refused, reply_of_rows, reply_of_walk, serial_of}
-use Rattle.dn_answer.specs.Rows.{has_some, of_name, of_type, rows_of}
+use Rattle.dn_store.specs.Rows.{has_some, of_name, of_type, rows_of}
 use Rattle.dn_answer.specs.Size.{fitted, reply_size, truncated, without_additional}
 use Rattle.dn_answer.specs.Walk.{asked, by_cut, by_link, cut, ended_at, link, may_follow, missed, name_exists, negative, onward, stopped, walk}
 

@@ -7,7 +7,7 @@ use Rattle.dn_name.specs.Name.{Labels, IsName, is_same, wire_len, wire_of}
 use Rattle.dn_name.specs.Wire.{plain_name}
 use Rattle.dn_name.proofs.CallerLemmas.{plain_again}
 use Rattle.dn_rdata.specs.Layout.{IsData}
-use Rattle.dn_answer.specs.declared.rows.Owned.{Owned}
+use Rattle.dn_store.specs.declared.owned.Owned.{Owned}
 use Rattle.dn_answer.specs.Answer.{answered_data, soa_data, with_primary}
 use Rattle.dn_answer.specs.Size.{behind_primary, data_size}
 

@@ -8,10 +8,10 @@ use Rattle.dn_message.specs.declared.rcode.Rcode.TheVariants.{Refused}
 use Rattle.dn_message.specs.declared.rr.Rr.{Rr}
 use Rattle.dn_store.specs.Table.{TableState}
 use Rattle.dn_answer.specs.declared.reply.AnswerValue.{AnswerValue}
-use Rattle.dn_answer.specs.declared.rows.Owned.{Owned}
+use Rattle.dn_store.specs.declared.owned.Owned.{Owned}
 use Rattle.dn_answer.specs.declared.walk.Walk.{Walk}
 use Rattle.dn_answer.specs.Glue.{as_spelled, glue}
-use Rattle.dn_answer.specs.Rows.{has_some, of_name, of_type, rows_of}
+use Rattle.dn_store.specs.Rows.{has_some, of_name, of_type, rows_of}
 use Rattle.dn_answer.specs.Size.{fitted}
 use Rattle.dn_answer.specs.Walk.{walk}
 

@@ -3,7 +3,6 @@ pub mod Answer
 pub mod Below
 pub mod Datagram
 pub mod Glue
-pub mod Rows
 pub mod Sendable
 pub mod Size
 pub mod Told

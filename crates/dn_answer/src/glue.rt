@@ -6,11 +6,12 @@ ghost use Rattle.dn_answer.specs.Answer.{owner_of};
 ghost use Rattle.dn_answer.specs.Glue.Turn.{PutsGlue};
 
 use crate::lookups::Rows;
-use crate::rows::{Owned, of_type};
+use crate::rows::of_type;
 use dn_io::{Duplicate, List, OutOfMemory};
 use dn_message::Rr;
 use dn_name::Name;
 use dn_rdata::{A, AAAA, IN, MX, NS, SRV, target_of};
+use dn_store::Owned;
 use std::alloc::Global;
 
 // A name as the question or an alias spelled it.

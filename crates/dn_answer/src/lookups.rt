@@ -1,14 +1,14 @@
 ghost use Rattle.std.specs.Prelude.{◌≡◌, filter, IfOk, Some};
-ghost use Rattle.dn_answer.specs.Below.{is_key_under};
-ghost use Rattle.dn_answer.specs.Rows.{first_row, has_some, of_name, of_type, rows_of};
+ghost use Rattle.dn_answer.specs.Below.{has_row, is_key_under};
+ghost use Rattle.dn_store.specs.Rows.{first_row, has_some, of_name, of_type, rows_of};
 ghost use Rattle.dn_answer.specs.Walk.{name_exists};
 ghost use Rattle.dn_store.specs.Table.{is_above};
 ghost use Rattle.dn_store.specs.declared.unit.UnitKey.TheVariants.{Node};
 
-use crate::rows::{Owned, of_type, push_node};
+use crate::rows::{of_type, push_node};
 use dn_io::{Duplicate, List, OutOfMemory};
 use dn_name::Name;
-use dn_store::{Table, UnitKey, rows_at, rows_in};
+use dn_store::{Owned, Table, Unit, UnitKey, rows_at, rows_in};
 use std::alloc::Global;
 use std::marker::Model;
 
@@ -21,8 +21,8 @@ pub struct Rows<'a> {
 
 impl<'a> Model for Rows<'a> {
     ghost use Rattle.std.specs.Prelude.{List as Seq};
-    ghost use Rattle.dn_answer.specs.Rows.{rows_of};
-    ghost use Rattle.dn_answer.specs.declared.rows.Owned as rows;
+    ghost use Rattle.dn_store.specs.Rows.{rows_of};
+    ghost use Rattle.dn_store.specs.declared.owned.Owned as rows;
 
     ghost Value = { Seq rows.Owned };
 
@@ -39,6 +39,14 @@ fn is_key_under(key: &UnitKey, name: &Name) -> bool
     }
 }
 
+// Whether a unit has a row: a tombstone has none.
+#[tactic(auto, using(crate::proofs::BelowLemmas::some_from))]
+fn has_row(unit: &Unit) -> bool
+    ensures { result ≡ has_row unit.now }
+{
+    !rows_in(&unit.value).is_empty()
+}
+
 // Whether a name below this one has a row. The names below one follow it in the order of names (RFC 4034 6.1), with none
 // between them that isn't below it.
 fn has_below(table: &Table, name: &Name) -> bool
@@ -50,7 +58,7 @@ fn has_below(table: &Table, name: &Name) -> bool
         if !is_key_under(&unit.key, name) {
             return false;
         }
-        if !rows_in(&unit.value).is_empty() {
+        if has_row(unit) {
             return true;
         }
         after = unit.key;

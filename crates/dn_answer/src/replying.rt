@@ -4,14 +4,13 @@ ghost use Rattle.dn_answer.specs.Answer.{answer_of, answered_data, refused, repl
 use crate::glue::{glue, owner_of};
 use crate::lookups::Rows;
 use crate::reply::AnswerValue;
-use crate::rows::Owned;
 use crate::size::{behind, fitted};
 use crate::walk::{Walk, walk_from};
 use dn_io::{List, OutOfMemory};
 use dn_message::{Rcode, Rr};
 use dn_name::Name;
 use dn_rdata::{AXFR, IN, SOA, push_wire};
-use dn_store::Table;
+use dn_store::{Owned, Table};
 use std::alloc::Global;
 
 // How many serials there are (RFC 1982).

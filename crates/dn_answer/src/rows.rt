@@ -1,27 +1,11 @@
 ghost use Rattle.std.specs.Prelude.{◌≡◌, ◌++◌, map, IfOk, OnOk};
-ghost use Rattle.dn_answer.specs.Rows.{of_type, owned_by, rows_of_node};
+ghost use Rattle.dn_store.specs.Rows.{of_type, owned_by, rows_of_node};
 
 use dn_io::{Duplicate, List, OutOfMemory};
 use dn_name::Name;
 use dn_rdata::Record;
-use dn_store::{Unit, UnitKey, UnitValue};
+use dn_store::{Owned, Unit, UnitKey, UnitValue};
 use std::alloc::Global;
-
-// A record under the name of its node.
-#[derive(Drop)]
-pub struct Owned {
-    pub name: Name,
-    pub row: Record,
-}
-
-impl Duplicate for Owned {
-    fn copy(&self, alloc: Global) -> Result<Self, OutOfMemory> {
-        Ok(Owned {
-            name: self.name,
-            row: self.row.copy(alloc)?,
-        })
-    }
-}
 
 // Adds copies of the records of a node at the end, each under the node's name.
 fn push_rows(
@@ -60,7 +44,7 @@ pub fn push_node(alloc: Global, list: &mut List<Owned>, unit: &Unit) -> Result<(
 //
 // # Errors
 // `OutOfMemory`.
-#[tactic(auto, unfolding(crate::specs::Rows::of_type))]
+#[tactic(auto, unfolding(dn_store::specs::Rows::of_type))]
 pub fn of_type(alloc: Global, rtype: u16, rows: &[Owned]) -> Result<List<Owned>, OutOfMemory>
     ensures { IfOk result (λ found. found ≡ of_type rtype rows.now) }
 {

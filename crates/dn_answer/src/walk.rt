@@ -5,14 +5,15 @@ ghost use Rattle.dn_answer.specs.Walk.{asked, behind_link, cut, ended_at, is_ask
 ghost use Rattle.dn_rdata.specs.Types.{answerable};
 ghost use Rattle.dn_rdata.specs.Data.{minimum_of};
 ghost use Rattle.dn_answer.specs.Walk.Follow.{next_name};
-ghost use Rattle.dn_answer.specs.Rows.{of_name, of_type};
+ghost use Rattle.dn_store.specs.Rows.{of_name, of_type};
 
 use crate::lookups::Rows;
-use crate::rows::{Owned, of_type};
+use crate::rows::of_type;
 use dn_io::{Duplicate, List, OutOfMemory};
 use dn_message::Rcode;
 use dn_name::Name;
 use dn_rdata::{ANY, CNAME, NS, Record, SOA, answerable, minimum_of, target_of};
+use dn_store::Owned;
 use std::alloc::Global;
 
 // What the walk from a question's name gives: the rows of the answer and of authority, whether it ended at a

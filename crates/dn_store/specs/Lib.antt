@@ -3,6 +3,7 @@ pub mod Contents
 pub mod Fronts
 pub mod Numbers
 pub mod Places
+pub mod Rows
 pub mod Run
 pub mod Table
 pub mod Valid

@@ -8,6 +8,7 @@ mod held;
 mod marks;
 mod numbers;
 mod order;
+mod owned;
 mod rows;
 mod table;
 mod threads;
@@ -16,6 +17,7 @@ mod value;
 mod writing;
 
 pub use contents::{properties_of, props_number, rows_at, rows_in};
+pub use owned::Owned;
 pub use table::{ChangeRun, Table};
 pub use unit::{Unit, UnitKey, UnitValue, Write};
 pub use value::{fits, unit_ok, value_len};

@@ -1,5 +1,5 @@
 use Rattle.std.proofs.Common.{◌≡◌, ◌++◌, take, map}
-use Rattle.dn_answer.specs.Rows.{owned_by}
+use Rattle.dn_store.specs.Rows.{owned_by}
 use Rattle.dn_answer.proofs.rows.push_rows.Given as goal
 
 abbrev pub invariant-loop-row : goal.invariant-loop-row

@@ -1,6 +1,6 @@
 use Rattle.std.proofs.Common.{List, None, Some, ◌++◌, ap, ◌∙◌}
-use Rattle.dn_answer.specs.declared.rows.Owned.{Owned}
-use Rattle.dn_answer.specs.Rows.{rows_of_node}
+use Rattle.dn_store.specs.declared.owned.Owned.{Owned}
+use Rattle.dn_store.specs.Rows.{rows_of_node}
 use Rattle.dn_answer.proofs.LookupLemmas.{name_is}
 use Rattle.dn_answer.proofs.lookups.Rows.of_name.Goals as goal
 
