@@ -13,7 +13,7 @@ use Rattle.dn_answer.specs.declared.walk.Walk.{Walk}
 use Rattle.dn_answer.specs.Glue.{as_spelled, glue}
 use Rattle.dn_store.specs.Rows.{has_some, of_name, of_type, rows_of}
 use Rattle.dn_answer.specs.Size.{fitted}
-use Rattle.dn_answer.specs.Walk.{walk}
+use Rattle.dn_answer.specs.Walk.{most_links, walk}
 
 -- the serial that a zone's SOA is answered with: one above its change count, in 32 bits
 abbrev pub serial_of : ℕ → ℕ
@@ -68,7 +68,7 @@ reply_of_walk rows apex host serial walked =
 unfoldable pub reply_of_rows : List Owned → Labels → ℕ → Labels → Labels → ℕ → AnswerValue
 reply_of_rows rows apex serial host name qtype =
     if has_some (of_type SOA (of_name apex rows)) && not (nat_eq qtype AXFR)
-    then fitted name (reply_of_walk rows apex host serial (walk 16 rows apex qtype (name ∷ []) name))
+    then fitted name (reply_of_walk rows apex host serial (walk most_links rows apex qtype (name ∷ []) name))
     else refused
 
 -- The reply of a zone to a question: of the rows of its table, with the serial of its change count.
