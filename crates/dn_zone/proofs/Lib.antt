@@ -5,8 +5,10 @@ pub mod AgingSound
 pub mod AgingSteps
 pub mod CallerLemmas
 pub mod CreationLemmas
+pub mod CursorLemmas
 pub mod JoinLemmas
 pub mod Keeping
+pub mod KeptLemmas
 pub mod OwnWrites
 pub mod SentLemmas
 pub mod SettingLemmas
