@@ -5,4 +5,5 @@ pub mod Merge
 pub mod Outcome
 pub mod Settings
 pub mod Valid
+pub mod Writes
 pub mod Zone

@@ -1,5 +1,6 @@
 use Rattle.std.proofs.Common.{◌≤◌, length, arith, subst}
 use Rattle.dn_link.specs.declared.packet.Changes.{Changes}
+use Rattle.dn_link.specs.Sent.{units_limit}
 use Rattle.dn_zone.specs.Joins.{Joins}
 use Rattle.dn_zone.proofs.JoinLemmas.{joins_seen}
 use Rattle.dn_zone.proofs.WinnerLemmas.{won_taken}
@@ -15,7 +16,7 @@ after_merge-requires-clause-values c =
 
 pub overflow_cast-count : goal.overflow_cast-count
 overflow_cast-count c =
-    let most : length c.in_ok-won.won ≤ 64000 =
+    let most : length c.in_ok-won.won ≤ units_limit =
     (won_taken c.args.self.now.table.0 c.changes.inside.units c.as_slice.result.now c.in_ok-won.won c.changes.invariant c.as_slice.ensures c.in_ok-won.ensures).count in
     omega arith
 
