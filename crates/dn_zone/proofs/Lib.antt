@@ -17,4 +17,5 @@ pub mod ValidCreation
 pub mod ValidEvents
 pub mod ValidSettings
 pub mod WinnerLemmas
+pub mod WritesLemmas
 pub mod ZoneData

@@ -17,8 +17,8 @@ use Rattle.dn_rdata.specs.Types.{SOA, answerable}
 use Rattle.dn_store.specs.declared.unit.Unit as units
 use Rattle.dn_store.specs.declared.unit.Write.{Write}
 use Rattle.dn_store.specs.Contents.{props_number, properties_of}
-use Rattle.dn_store.specs.Table.{IsTable, TableState, change_limit, write_of, run_after}
-use Rattle.dn_store.specs.Valid.{IsValidUnit, IsValidWrite}
+use Rattle.dn_store.specs.Table.{TableState, change_limit, write_of, run_after}
+use Rattle.dn_store.specs.Valid.{IsValidTable, IsValidUnit, IsValidWrite}
 use Rattle.dn_store.specs.Value.{fits}
 use Rattle.dn_store.proofs.CallerLemmas.{all_filter, all_then, run_differ, run_order, run_short, run_valid, table_taken, valid_taken}
 use Rattle.dn_update.specs.Writes.{Wanted, with_writes, written}
@@ -43,9 +43,6 @@ use Rattle.dn_zone.specs.Zone.{add_wanted, admin_step, after_merge, begin_at, be
 use Rattle.dn_zone.proofs.ValidSettings.{properties_grow, settings_allowed}
 
 -- ---- a zone with other units, cursors or another pass
-
-abbrev IsValidTable : Labels → TableState → Type 0
-IsValidTable apex table = IsTable table.0 table.1 × AllByRecursion (IsValidUnit apex) table.0
 
 abbrev AreCursors : List (ReplicaId × ℕ) → Type 0
 AreCursors cursors = AllByRecursion (λ entry. entry.1 ≤ change_limit) cursors

@@ -2,6 +2,7 @@ use Rattle.std.proofs.Common.{rules, ◌≡◌, ◌+◌, ◌≤◌, false, nat_l
 use Rattle.dn_store.specs.Table.{change_limit}
 use Rattle.dn_link.specs.declared.packet.Changes.{Changes}
 use Rattle.dn_zone.specs.declared.event.Answer.TheVariants as answers
+use Rattle.dn_link.specs.Sent.{units_limit}
 use Rattle.dn_zone.specs.Joins.{Joins}
 use Rattle.dn_zone.specs.Zone.{merge_step}
 use Rattle.dn_zone.proofs.JoinLemmas.{joins_seen}
@@ -19,7 +20,7 @@ after_merge-requires-clause-values c =
 
 pub overflow_cast-count : goal.overflow_cast-count
 overflow_cast-count c =
-    let most : length c.in_ok-won.won ≤ 64000 =
+    let most : length c.in_ok-won.won ≤ units_limit =
     (won_taken c.args.self.now.table.0 c.changes.inside.units c.as_slice.result.now c.in_ok-won.won c.changes.invariant c.as_slice.ensures c.in_ok-won.ensures).count in
     omega arith
 
