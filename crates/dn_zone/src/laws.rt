@@ -8,6 +8,7 @@ ghost use Rattle.dn_zone.specs.State.{ZoneState};
 ghost use Rattle.dn_zone.specs.Creation.{created, joined_zone};
 ghost use Rattle.dn_zone.specs.Merge.{changes_of, cursor_of, with_cursor};
 ghost use Rattle.dn_zone.specs.Valid.{IsValidZone, Meets};
+ghost use Rattle.dn_zone.specs.Writes.{TakesItsWrites};
 ghost use Rattle.dn_zone.specs.Zone.{zstep};
 
 /// The law that zones stay valid: a new zone and one that is copied are valid, each event that a valid zone may meet leaves it
@@ -24,4 +25,10 @@ pub fn zones_stay_valid()
 pub fn cursors_move_apart()
     ensures moved { (cursors : List (ReplicaId × ℕ)) (supplier other : ReplicaId) (seen : ℕ) → cursor_of other (with_cursor supplier seen cursors) ≡ (if is_id other supplier then seen else cursor_of other cursors) }
     ensures kept { (cursors : List (ReplicaId × ℕ)) (supplier : ReplicaId) → with_cursor supplier (cursor_of supplier cursors) cursors ≡ cursors }
+{}
+
+/// The law of an event's writes: the table behind each event of a zone is the table before with the writes taken that the event
+/// makes, one after another. It stands in the contract, and nothing runs.
+pub fn events_take_their_writes()
+    ensures { (zone : ZoneState) (event : Event) → TakesItsWrites zone event }
 {}

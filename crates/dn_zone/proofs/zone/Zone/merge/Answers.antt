@@ -4,6 +4,8 @@ use Rattle.dn_link.specs.declared.packet.Changes.{Changes}
 use Rattle.dn_zone.specs.declared.event.Answer.TheVariants as answers
 use Rattle.dn_link.specs.Sent.{units_limit}
 use Rattle.dn_zone.specs.Joins.{Joins}
+use Rattle.dn_zone.specs.Merge.{cursor_of}
+use Rattle.dn_zone.specs.State.{ZoneState}
 use Rattle.dn_zone.specs.Zone.{merge_step}
 use Rattle.dn_zone.proofs.JoinLemmas.{joins_seen}
 use Rattle.dn_zone.proofs.KeptLemmas.{kept_seen}
@@ -37,6 +39,8 @@ returns-then-changes-cursor-clause-step c =
     let none : length c.in_ok-won.won ≡ 0 = search rules in
     let room : nat_lt change_limit (c.args.self.now.table.1 + length c.in_ok-won.won) ≡ false = search rules in
     let within : sent.to ≤ c.of-cursor.result = search rules in
+    let found : c.of-cursor.result ≡ cursor_of sent.supplier c.args.self.now.cursors =
+    subst (λ (zone : ZoneState). c.of-cursor.result ≡ cursor_of sent.supplier zone.cursors) c.self.view_is c.of-cursor.ensures in
     subst (λ (changes : Changes). merge_step c.args.self.now changes ≡ (c.args.self.now, answers.Merged 0)) c.changes.view_is
     (kept_seen c.args.self.now (record { zone = sent.zone; supplier = sent.supplier; from = sent.from; to = sent.to; units = sent.units }) c.of-cursor.result
-    c.as_slice.result.now c.in_ok-won.won c.of-cursor.ensures whole c.as_slice.ensures c.in_ok-won.ensures none room within)
+    c.as_slice.result.now c.in_ok-won.won found whole c.as_slice.ensures c.in_ok-won.ensures none room within)
