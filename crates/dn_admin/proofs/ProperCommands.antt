@@ -50,7 +50,7 @@ interval_within : (words : List (List ℕ)) (hours : ℕ) → interval_of words 
 unfolding interval_of
 interval_within [] hours is = absurd (cc)
 interval_within (word ∷ next ∷ rest) hours is = absurd (cc)
-interval_within (word ∷ []) hours is = number_is_within 87600 word hours is
+interval_within (word ∷ []) hours is = number_is_within interval_limit word hours is
 
 proper_named : (verb : List ℕ) (hours : ℕ) → hours ≤ interval_limit → (cmd : AdminCmd) → interval_named verb hours ≡ Some cmd → IsProperCommand cmd
 proper_named verb hours within cmd is =

@@ -4,6 +4,7 @@ use Rattle.dn_io.specs.Options.{◌>>=◌}
 use Rattle.dn_rdata.specs.Types.{A}
 use Rattle.dn_zone.specs.declared.event.AdminCmd.{AdminCmd}
 use Rattle.dn_zone.specs.declared.event.AdminCmd.TheVariants.{Add, AgingOn, AgingOff, NoRefresh, Refresh}
+use Rattle.dn_zone.specs.Valid.{interval_limit}
 use Rattle.dn_word.specs.Addresses.{address_of}
 use Rattle.dn_word.specs.Names.{name_word}
 use Rattle.dn_word.specs.Numbers.{number_within}
@@ -38,9 +39,9 @@ aging_of (word ∷ []) =
     if is_word word (codes "on") then Some AgingOn else (if is_word word (codes "off") then Some AgingOff else None)
 aging_of words = None
 
--- the hours of an interval, at most 87,600
+-- the hours of an interval, within its limit
 unfoldable pub interval_of : List (List ℕ) → Option ℕ
-interval_of (hours ∷ []) = number_within 87600 hours
+interval_of (hours ∷ []) = number_within interval_limit hours
 interval_of words = None
 
 abbrev pub interval_named : List ℕ → ℕ → Option AdminCmd

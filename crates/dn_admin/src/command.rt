@@ -6,11 +6,8 @@ use dn_io::List;
 use dn_rdata::A;
 use dn_text::is_type_a;
 use dn_word::{TextError, ip_of, is_word, name_of, number_of};
-use dn_zone::AdminCmd;
+use dn_zone::{AdminCmd, INTERVAL_LIMIT};
 use std::alloc::Global;
-
-// The longest interval of aging that a command sets, in hours: ten years.
-const MAX_INTERVAL: u32 = 87_600;
 
 // The command that adds an address at a name, with an hour as its time stamp.
 #[tactic(auto, unfolding(crate::specs::Command::address_command))]
@@ -90,7 +87,7 @@ fn interval_of(words: &[&[u8]]) -> Option<u32>
     let [hours] = words else {
         return None;
     };
-    number_of(MAX_INTERVAL, hours)
+    number_of(INTERVAL_LIMIT, hours)
 }
 
 // `norefresh H` or `refresh H`.

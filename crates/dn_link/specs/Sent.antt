@@ -20,15 +20,15 @@ pub record Run : Type 0 where
   pub to : ℕ
   pub units : List Write
 
--- what can be taken: different keys, values that fit, and no more units than a packet has bytes for them
-pub record CanBeTaken (writes : List Write) : Type 0 where
-  pub keys : KeysDiffer writes
-  pub values : AllByRecursion (λ write. IsTrue (fits write.value)) writes
-  pub count : length writes ≤ changes_room
-
 -- the most units of a packet of changes
 abbrev pub units_limit : ℕ
 units_limit = 65535
+
+-- what can be taken: different keys, values that fit, and no more units than the count of a packet can say
+pub record CanBeTaken (writes : List Write) : Type 0 where
+  pub keys : KeysDiffer writes
+  pub values : AllByRecursion (λ write. IsTrue (fits write.value)) writes
+  pub count : length writes ≤ units_limit
 
 -- Valid changes: the zone is a name in lower case, each unit is valid for it, their keys differ, there are at most 65,535 of
 -- them, and the numbers are in order, up to 2^63.

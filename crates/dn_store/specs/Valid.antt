@@ -11,6 +11,7 @@ use Rattle.dn_store.specs.declared.unit.UnitKey.TheVariants as keys
 use Rattle.dn_store.specs.declared.unit.UnitValue.{UnitValue}
 use Rattle.dn_store.specs.declared.unit.UnitValue.TheVariants.{Props, Live, Tombstone, Gone}
 use Rattle.dn_store.specs.declared.unit.Write.{Write}
+use Rattle.dn_store.specs.Table.{IsTable, TableState}
 use Rattle.dn_store.specs.Value.{fits, unit_ok}
 
 -- a node's key is a name
@@ -39,3 +40,7 @@ IsValidUnit apex unit = IsValid apex unit.key unit.stamp unit.value
 
 abbrev pub IsValidWrite : Labels → Write → Type 0
 IsValidWrite apex write = IsValid apex write.key write.stamp write.value
+
+-- A valid table for an apex: it is a table, and each of its units is valid.
+abbrev pub IsValidTable : Labels → TableState → Type 0
+IsValidTable apex table = IsTable table.0 table.1 × AllByRecursion (IsValidUnit apex) table.0

@@ -1,5 +1,6 @@
 -- The names of the properties of a zone (MS-DNSP 2.3.2.1.1).
 use Rattle.std.specs.Prelude.{ℕ, nat_eq, if◌then◌else◌, List, [], ◌∷◌, codes, decimal, Option, None, Some}
+use Rattle.dn_property.specs.Ids.{AGING_ENABLED_TIME, AGING_STATE, ALLOW_UPDATE, AUTO_NS_SERVERS, DCPROMO_CONVERT, DELETED_FROM_HOSTNAME, MASTER_SERVERS, NODE_DBFLAGS, NOREFRESH_INTERVAL, REFRESH_INTERVAL, SCAVENGING_SERVERS, SECURE_TIME, ZONE_TYPE}
 use Rattle.dn_word.specs.Words.{is_word}
 
 pub record Named : Type 0 where
@@ -12,19 +13,19 @@ named id name = record { id = id; name = name }
 -- the properties that have names
 abbrev pub properties : List Named
 properties =
-    named 0x01 (codes "ZONE_TYPE")
-    ∷ named 0x02 (codes "ALLOW_UPDATE")
-    ∷ named 0x08 (codes "SECURE_TIME")
-    ∷ named 0x10 (codes "NOREFRESH_INTERVAL")
-    ∷ named 0x11 (codes "SCAVENGING_SERVERS")
-    ∷ named 0x12 (codes "AGING_ENABLED_TIME")
-    ∷ named 0x20 (codes "REFRESH_INTERVAL")
-    ∷ named 0x40 (codes "AGING_STATE")
-    ∷ named 0x80 (codes "DELETED_FROM_HOSTNAME")
-    ∷ named 0x81 (codes "MASTER_SERVERS")
-    ∷ named 0x82 (codes "AUTO_NS_SERVERS")
-    ∷ named 0x83 (codes "DCPROMO_CONVERT")
-    ∷ named 0x100 (codes "NODE_DBFLAGS")
+    named ZONE_TYPE (codes "ZONE_TYPE")
+    ∷ named ALLOW_UPDATE (codes "ALLOW_UPDATE")
+    ∷ named SECURE_TIME (codes "SECURE_TIME")
+    ∷ named NOREFRESH_INTERVAL (codes "NOREFRESH_INTERVAL")
+    ∷ named SCAVENGING_SERVERS (codes "SCAVENGING_SERVERS")
+    ∷ named AGING_ENABLED_TIME (codes "AGING_ENABLED_TIME")
+    ∷ named REFRESH_INTERVAL (codes "REFRESH_INTERVAL")
+    ∷ named AGING_STATE (codes "AGING_STATE")
+    ∷ named DELETED_FROM_HOSTNAME (codes "DELETED_FROM_HOSTNAME")
+    ∷ named MASTER_SERVERS (codes "MASTER_SERVERS")
+    ∷ named AUTO_NS_SERVERS (codes "AUTO_NS_SERVERS")
+    ∷ named DCPROMO_CONVERT (codes "DCPROMO_CONVERT")
+    ∷ named NODE_DBFLAGS (codes "NODE_DBFLAGS")
     ∷ []
 
 abbrev pub property_name_in : List Named → ℕ → List ℕ

@@ -16,6 +16,7 @@ mod strings;
 mod table;
 mod types;
 
+pub use dn_word::TextError;
 pub use laws::{
     data_are_read_back, digits_are_read_back, long_addresses_are_read_back,
     properties_are_read_back, records_are_read_back, strings_are_read_back,

@@ -5,6 +5,7 @@ ghost use Rattle.dn_text.specs.PropertyTable.{id_named, id_text, properties};
 ghost use Rattle.dn_text.specs.Shapes.{property};
 
 use dn_io::{List, OutOfMemory};
+use dn_property::ids;
 use dn_word::{is_word, number_of, push_number};
 use std::alloc::Global;
 
@@ -18,55 +19,55 @@ struct Named {
 // The properties that have names (MS-DNSP 2.3.2.1.1).
 const PROPERTIES: &[Named] = &[
     Named {
-        id: 0x01,
+        id: ids::ZONE_TYPE,
         name: b"ZONE_TYPE",
     },
     Named {
-        id: 0x02,
+        id: ids::ALLOW_UPDATE,
         name: b"ALLOW_UPDATE",
     },
     Named {
-        id: 0x08,
+        id: ids::SECURE_TIME,
         name: b"SECURE_TIME",
     },
     Named {
-        id: 0x10,
+        id: ids::NOREFRESH_INTERVAL,
         name: b"NOREFRESH_INTERVAL",
     },
     Named {
-        id: 0x11,
+        id: ids::SCAVENGING_SERVERS,
         name: b"SCAVENGING_SERVERS",
     },
     Named {
-        id: 0x12,
+        id: ids::AGING_ENABLED_TIME,
         name: b"AGING_ENABLED_TIME",
     },
     Named {
-        id: 0x20,
+        id: ids::REFRESH_INTERVAL,
         name: b"REFRESH_INTERVAL",
     },
     Named {
-        id: 0x40,
+        id: ids::AGING_STATE,
         name: b"AGING_STATE",
     },
     Named {
-        id: 0x80,
+        id: ids::DELETED_FROM_HOSTNAME,
         name: b"DELETED_FROM_HOSTNAME",
     },
     Named {
-        id: 0x81,
+        id: ids::MASTER_SERVERS,
         name: b"MASTER_SERVERS",
     },
     Named {
-        id: 0x82,
+        id: ids::AUTO_NS_SERVERS,
         name: b"AUTO_NS_SERVERS",
     },
     Named {
-        id: 0x83,
+        id: ids::DCPROMO_CONVERT,
         name: b"DCPROMO_CONVERT",
     },
     Named {
-        id: 0x100,
+        id: ids::NODE_DBFLAGS,
         name: b"NODE_DBFLAGS",
     },
 ];

@@ -15,7 +15,7 @@ use Rattle.dn_store.specs.declared.unit.Unit as units
 use Rattle.dn_store.specs.declared.unit.UnitKey.{UnitKey}
 use Rattle.dn_store.specs.declared.unit.Write.{Write}
 use Rattle.dn_store.specs.Table.{IsTable, TableState, change_limit, unit_at}
-use Rattle.dn_store.specs.Valid.{HasData, IsNamedKey, IsValidUnit, IsValidWrite}
+use Rattle.dn_store.specs.Valid.{HasData, IsNamedKey, IsValidTable, IsValidUnit, IsValidWrite}
 use Rattle.dn_store.specs.Value.{fits, unit_ok}
 use Rattle.dn_store.proofs.CallerLemmas.{all_then, table_taken, valid_taken}
 use Rattle.dn_update.specs.Writes.{Outcome, Wanted, stamp_behind, stamp_for, stamped, when_stamped, with_writes, write_under, written}
@@ -73,9 +73,6 @@ stamped_valid apex list id seconds (one ∷ rest) writes fit allowed valid is =
     )
 
 -- ---- the table after values were written
-
-abbrev IsValidTable : Labels → TableState → Type 0
-IsValidTable apex table = IsTable table.0 table.1 × AllByRecursion (IsValidUnit apex) table.0
 
 taken_valid : (apex : Labels) (table : TableState) (writes : List Write) → table.1 + length writes ≤ change_limit → AllByRecursion (IsValidWrite apex) writes → IsValidTable apex table
     → IsValidTable apex (with_writes writes table)

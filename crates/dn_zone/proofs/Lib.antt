@@ -6,8 +6,10 @@ pub mod AgingSteps
 pub mod CallerLemmas
 pub mod CreationLemmas
 pub mod Identity
+pub mod CursorLemmas
 pub mod JoinLemmas
 pub mod Keeping
+pub mod KeptLemmas
 pub mod OwnWrites
 pub mod SentLemmas
 pub mod SettingLemmas
@@ -15,4 +17,5 @@ pub mod ValidCreation
 pub mod ValidEvents
 pub mod ValidSettings
 pub mod WinnerLemmas
+pub mod WritesLemmas
 pub mod ZoneData

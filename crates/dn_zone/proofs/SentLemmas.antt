@@ -8,9 +8,9 @@ use Rattle.dn_store.specs.declared.unit.Write.{Write}
 use Rattle.dn_store.specs.Table.{KeysDiffer, run_after, write_of}
 use Rattle.dn_store.specs.Value.{fits}
 use Rattle.dn_store.proofs.CallerLemmas.{run_short}
-use Rattle.dn_link.specs.Sent.{CanBeTaken}
+use Rattle.dn_link.specs.Sent.{CanBeTaken, units_limit}
 
-pub run_taken : (usn room top : ℕ) (list seen : List units.Unit) (run : ChangeRun) (writes : List Write) → room ≤ 64000
+pub run_taken : (usn room top : ℕ) (list seen : List units.Unit) (run : ChangeRun) (writes : List Write) → room ≤ units_limit
     → writes ≡ map write_of seen → seen ≡ run.units → run ≡ run_after usn room top list
     → KeysDiffer (map write_of run.units) → AllByRecursion (λ write. IsTrue (fits write.value)) (map write_of run.units)
     → CanBeTaken writes
@@ -18,9 +18,9 @@ run_taken usn room top list seen run writes most are is ran keys values =
     let e : map write_of run.units ≡ writes = sym (are ∙ ap (map write_of) is) in
     let here : length (map write_of run.units) ≤ room =
     subst (λ (one : ChangeRun). length (map write_of one.units) ≤ room) (sym ran) (run_short usn room top list) in
-    let count : length (map write_of run.units) ≤ 64000 = omega arith in
+    let count : length (map write_of run.units) ≤ units_limit = omega arith in
     record {
       keys = subst KeysDiffer e keys;
       values = subst (AllByRecursion (λ write. IsTrue (fits write.value))) e values;
-      count = subst (λ (all : List Write). length all ≤ 64000) e count;
+      count = subst (λ (all : List Write). length all ≤ units_limit) e count;
     }

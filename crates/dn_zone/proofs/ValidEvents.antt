@@ -2,10 +2,8 @@
 use Rattle.std.proofs.Common.{◌≡◌, ℕ, ◌+◌, ◌≤◌, Bool, true, false, cond, List, [], ◌∷◌, length, map, min, max, nat_eq, nat_lt, Option, None, Some, refl, subst, arith}
 use Rattle.std.proofs.Math.Nat.{max-le}
 use Rattle.std.proofs.lemmas.Bool.{cond_both, ltb-false}
-use Rattle.std.specs.Prelude.{IsTrue, unwrap_or}
+use Rattle.std.specs.Prelude.{IsTrue}
 use Rattle.std.specs.List.{AllByRecursion}
-use Rattle.std.specs.Map.{lookup}
-use Rattle.indexmap.specs.IndexMap.{insert_entry}
 use Rattle.dn_io.specs.Moments.{hour_of}
 use Rattle.dn_name.specs.Name.{IsName, Labels, is_under}
 use Rattle.dn_property.specs.declared.property.Property.{Property}
@@ -19,8 +17,8 @@ use Rattle.dn_rdata.specs.Types.{SOA, answerable}
 use Rattle.dn_store.specs.declared.unit.Unit as units
 use Rattle.dn_store.specs.declared.unit.Write.{Write}
 use Rattle.dn_store.specs.Contents.{props_number, properties_of}
-use Rattle.dn_store.specs.Table.{IsTable, TableState, change_limit, write_of, run_after}
-use Rattle.dn_store.specs.Valid.{IsValidUnit, IsValidWrite}
+use Rattle.dn_store.specs.Table.{TableState, change_limit, write_of, run_after}
+use Rattle.dn_store.specs.Valid.{IsValidTable, IsValidUnit, IsValidWrite}
 use Rattle.dn_store.specs.Value.{fits}
 use Rattle.dn_store.proofs.CallerLemmas.{all_filter, all_then, run_differ, run_order, run_short, run_valid, table_taken, valid_taken}
 use Rattle.dn_update.specs.Writes.{Wanted, with_writes, written}
@@ -38,16 +36,13 @@ use Rattle.dn_zone.specs.declared.event.Answer.{Answer}
 use Rattle.dn_zone.specs.declared.event.Event.{Event}
 use Rattle.dn_zone.specs.declared.event.Event.TheVariants as events
 use Rattle.dn_zone.specs.State.{ZoneState}
-use Rattle.dn_zone.specs.Merge.{changes_of, cursor_of, winners, wins, with_cursor}
+use Rattle.dn_zone.specs.Merge.{changes_of, cursor_of, cursor_set, winners, wins, with_cursor}
 use Rattle.dn_zone.specs.Settings.{settings_of}
 use Rattle.dn_zone.specs.Valid.{IsProperCommand, IsValidZone, Meets}
 use Rattle.dn_zone.specs.Zone.{add_wanted, admin_step, after_merge, begin_at, begin_step, begin_unless, merge_step, merged, pass_step, set_step, settings_wanted, step_by, step_of, swept_zone, with_pass, with_table, zstep}
 use Rattle.dn_zone.proofs.ValidSettings.{properties_grow, settings_allowed}
 
 -- ---- a zone with other units, cursors or another pass
-
-abbrev IsValidTable : Labels → TableState → Type 0
-IsValidTable apex table = IsTable table.0 table.1 × AllByRecursion (IsValidUnit apex) table.0
 
 abbrev AreCursors : List (ReplicaId × ℕ) → Type 0
 AreCursors cursors = AllByRecursion (λ entry. entry.1 ≤ change_limit) cursors
@@ -153,23 +148,24 @@ step_valid zone most valid = step_by_pass zone.pass zone most valid
 
 -- ---- merges
 
-moved_within : (cursors : List (ReplicaId × ℕ)) (supplier : ReplicaId) (seen : ℕ) → AreCursors cursors → seen ≤ change_limit → AreCursors (insert_entry is_id cursors supplier seen)
-moved_within [] supplier seen are most = (most, tt)
-moved_within (entry ∷ cursors) supplier seen are most =
-    cond_both (is_id supplier entry.0) ((entry.0, seen) ∷ cursors) (entry ∷ insert_entry is_id cursors supplier seen) AreCursors
-    (λ is. (most, are.1)) (λ is. (are.0, moved_within cursors supplier seen are.1 most))
+set_within : (cursors : List (ReplicaId × ℕ)) (supplier : ReplicaId) (seen : ℕ) → AreCursors cursors → seen ≤ change_limit → AreCursors (cursor_set supplier seen cursors)
+set_within [] supplier seen are most = (most, tt)
+set_within (entry ∷ cursors) supplier seen are most =
+    cond_both (is_id supplier entry.0) ((entry.0, seen) ∷ cursors) (entry ∷ cursor_set supplier seen cursors) AreCursors
+    (λ is. (most, are.1)) (λ is. (are.0, set_within cursors supplier seen are.1 most))
 
 cursors_with : (cursors : List (ReplicaId × ℕ)) (supplier : ReplicaId) (seen : ℕ) → AreCursors cursors → seen ≤ change_limit → AreCursors (with_cursor supplier seen cursors)
 unfolding with_cursor
-cursors_with cursors supplier seen are most = moved_within cursors supplier seen are most
+cursors_with cursors supplier seen are most =
+    cond_both (nat_eq (cursor_of supplier cursors) seen) cursors (cursor_set supplier seen cursors) AreCursors (λ is. are) (λ is. set_within cursors supplier seen are most)
 
-found_within : (cursors : List (ReplicaId × ℕ)) (supplier : ReplicaId) → AreCursors cursors → unwrap_or (lookup (is_id supplier) cursors) 0 ≤ change_limit
+found_within : (cursors : List (ReplicaId × ℕ)) (supplier : ReplicaId) → AreCursors cursors → cursor_of supplier cursors ≤ change_limit
+unfolding cursor_of
 found_within [] supplier are = omega arith
 found_within (entry ∷ cursors) supplier are =
-    cond_both (is_id supplier entry.0) (Some entry.1) (lookup (is_id supplier) cursors) (λ found. unwrap_or found 0 ≤ change_limit) (λ is. are.0) (λ is. found_within cursors supplier are.1)
+    cond_both (is_id supplier entry.0) entry.1 (cursor_of supplier cursors) (λ found. found ≤ change_limit) (λ is. are.0) (λ is. found_within cursors supplier are.1)
 
 cursor_within : (zone : ZoneState) (supplier : ReplicaId) → IsValidZone zone → cursor_of supplier zone.cursors ≤ change_limit
-unfolding cursor_of
 cursor_within zone supplier valid = found_within zone.cursors supplier valid.cursors
 
 winners_valid : (zone : ZoneState) (changes : Changes) → IsValidRun changes → changes.zone ≡ zone.apex → AllByRecursion (IsValidWrite zone.apex) (winners zone.table.0 changes.units)

@@ -9,7 +9,7 @@ use Rattle.dn_store.specs.declared.unit.Write.{Write}
 use Rattle.dn_store.specs.Table.{KeysDiffer}
 use Rattle.dn_store.specs.Value.{fits, key_order}
 use Rattle.dn_store.proofs.CallerLemmas.{all_filter}
-use Rattle.dn_link.specs.Sent.{CanBeTaken}
+use Rattle.dn_link.specs.Sent.{CanBeTaken, units_limit}
 use Rattle.dn_zone.specs.Merge.{winners, wins}
 
 differ_filter : (test : Write → Bool) (list : List Write) → KeysDiffer list → KeysDiffer (filter test list)
@@ -22,7 +22,7 @@ differ_filter test (write ∷ list) differ =
 winners_taken : (list : List units.Unit) (writes : List Write) → CanBeTaken writes → CanBeTaken (winners list writes)
 unfolding winners
 winners_taken list writes can =
-    let count : length writes ≤ 64000 = can.count in
+    let count : length writes ≤ units_limit = can.count in
     record {
       keys = differ_filter (wins list) writes can.keys;
       values = all_filter (λ write. IsTrue (fits write.value)) (wins list) writes can.values;

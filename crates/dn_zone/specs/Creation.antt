@@ -3,6 +3,7 @@ use Rattle.std.specs.Prelude.{ℕ, List, [], ◌∷◌, ◌++◌, None}
 use Rattle.dn_io.specs.Moments.{seconds_of}
 use Rattle.dn_name.specs.Name.{Labels, lowered, wire_of}
 use Rattle.dn_property.specs.declared.property.Property.{Property}
+use Rattle.dn_property.specs.Ids.{AGING_ENABLED_TIME, AGING_STATE, ALLOW_UPDATE, NOREFRESH_INTERVAL, REFRESH_INTERVAL, ZONE_TYPE}
 use Rattle.dn_stamp.specs.declared.stamp.ReplicaId.{ReplicaId}
 use Rattle.dn_stamp.specs.Stamp.{first_stamp}
 use Rattle.dn_rdata.specs.declared.record.Record.{Record}
@@ -19,12 +20,12 @@ use Rattle.dn_zone.specs.Settings.{property}
 -- the properties of a new zone: type primary, updates allowed, both intervals 168 hours, aging off
 unfoldable pub first_properties : List Property
 first_properties =
-    property 0x01 (1 ∷ 0 ∷ 0 ∷ 0 ∷ [])
-    ∷ property 0x02 (1 ∷ [])
-    ∷ property 0x10 (168 ∷ 0 ∷ 0 ∷ 0 ∷ [])
-    ∷ property 0x12 (0 ∷ 0 ∷ 0 ∷ 0 ∷ [])
-    ∷ property 0x20 (168 ∷ 0 ∷ 0 ∷ 0 ∷ [])
-    ∷ property 0x40 (0 ∷ 0 ∷ 0 ∷ 0 ∷ [])
+    property ZONE_TYPE (1 ∷ 0 ∷ 0 ∷ 0 ∷ [])
+    ∷ property ALLOW_UPDATE (1 ∷ [])
+    ∷ property NOREFRESH_INTERVAL (168 ∷ 0 ∷ 0 ∷ 0 ∷ [])
+    ∷ property AGING_ENABLED_TIME (0 ∷ 0 ∷ 0 ∷ 0 ∷ [])
+    ∷ property REFRESH_INTERVAL (168 ∷ 0 ∷ 0 ∷ 0 ∷ [])
+    ∷ property AGING_STATE (0 ∷ 0 ∷ 0 ∷ 0 ∷ [])
     ∷ []
 
 -- serial 1, refresh 900, retry 600, expire 86400, minimum 3600, big-endian

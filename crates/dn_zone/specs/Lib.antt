@@ -6,4 +6,5 @@ pub mod Outcome
 pub mod Settings
 pub mod State
 pub mod Valid
+pub mod Writes
 pub mod Zone

@@ -1,7 +1,5 @@
 -- Replication: what a replica asks of another, what it is sent, and what a zone takes of it.
-use Rattle.std.specs.Prelude.{ℕ, min, Bool, true, List, filter, map, Option, None, Some, unwrap_or}
-use Rattle.std.specs.Map.{lookup}
-use Rattle.indexmap.specs.IndexMap.{insert_entry}
+use Rattle.std.specs.Prelude.{ℕ, min, Bool, true, nat_eq, if◌then◌else◌, List, [], ◌∷◌, filter, map, Option, None, Some}
 use Rattle.dn_name.specs.Name.{Labels}
 use Rattle.dn_stamp.specs.declared.stamp.ReplicaId.{ReplicaId}
 use Rattle.dn_stamp.specs.Stamp.{is_id, is_newer}
@@ -18,11 +16,18 @@ use Rattle.dn_zone.specs.State.{ZoneState}
 
 -- the cursor of a supplier, 0 where there is none
 unfoldable pub cursor_of : ReplicaId → List (ReplicaId × ℕ) → ℕ
-cursor_of supplier cursors = unwrap_or (lookup (is_id supplier) cursors) 0
+cursor_of supplier [] = 0
+cursor_of supplier (entry ∷ cursors) = if is_id supplier entry.0 then entry.1 else cursor_of supplier cursors
 
--- the cursors after one moved to a number: each supplier keeps its place, and a new one comes last
+-- the cursors with that of a supplier at a number: each supplier keeps its place, and a new one comes last
+abbrev pub cursor_set : ReplicaId → ℕ → List (ReplicaId × ℕ) → List (ReplicaId × ℕ)
+cursor_set supplier seen [] = (supplier, seen) ∷ []
+cursor_set supplier seen (entry ∷ cursors) =
+    if is_id supplier entry.0 then (entry.0, seen) ∷ cursors else entry ∷ cursor_set supplier seen cursors
+
+-- the same where the cursor stands at the number already, so a cursor of 0 is never written down
 unfoldable pub with_cursor : ReplicaId → ℕ → List (ReplicaId × ℕ) → List (ReplicaId × ℕ)
-with_cursor supplier seen cursors = insert_entry is_id cursors supplier seen
+with_cursor supplier seen cursors = if nat_eq (cursor_of supplier cursors) seen then cursors else cursor_set supplier seen cursors
 
 -- ---- which of two writes is newer
 

@@ -3,6 +3,7 @@ use Rattle.std.specs.Prelude.{ℕ, ◌+◌, min, Bool, true, false, not, nat_eq,
 use Rattle.std.specs.List.{list_all}
 use Rattle.std.specs.Int.{w32, to_le_bytes}
 use Rattle.dn_property.specs.declared.property.Property.{Property}
+use Rattle.dn_property.specs.Ids.{AGING_ENABLED_TIME, AGING_STATE, NOREFRESH_INTERVAL, REFRESH_INTERVAL}
 use Rattle.dn_property.specs.declared.rules.ZoneRules.{ZoneRules}
 use Rattle.dn_property.specs.Rules.{rules_of}
 use Rattle.dn_zone.specs.declared.event.AdminCmd.{AdminCmd}
@@ -14,12 +15,12 @@ use Rattle.dn_zone.specs.declared.settings.Setting.TheVariants as settings
 unfoldable pub property : ℕ → List ℕ → Property
 property id content = record { name_length = 1; flag = 0; id = id; content = content; tail = 0 ∷ [] }
 
--- the property that a setting is about: NOREFRESH_INTERVAL, AGING_ENABLED_TIME, REFRESH_INTERVAL, AGING_STATE
+-- the property that a setting is about
 abbrev pub property_id : Setting → ℕ
-property_id (settings.NoRefresh hours) = 0x10
-property_id (settings.Available hour) = 0x12
-property_id (settings.Refresh hours) = 0x20
-property_id (settings.Aging on) = 0x40
+property_id (settings.NoRefresh hours) = NOREFRESH_INTERVAL
+property_id (settings.Available hour) = AGING_ENABLED_TIME
+property_id (settings.Refresh hours) = REFRESH_INTERVAL
+property_id (settings.Aging on) = AGING_STATE
 
 abbrev pub wanted_number : Setting → ℕ
 wanted_number (settings.NoRefresh hours) = hours

@@ -29,7 +29,7 @@ abbrev pub interval_limit : ℕ
 interval_limit = 87600
 
 -- A proper command: a record that is added has a name, a type that is answered, other than SOA, and data that are valid for
--- this type; an interval is at most 87,600 hours.
+-- this type; an interval is within its limit.
 abbrev pub IsProperCommand : AdminCmd → Type 0
 IsProperCommand (Add name ttl rtype rdata hour) =
     IsName name × (answerable rtype ≡ true) × (nat_eq rtype SOA ≡ false) × IsData rtype rdata

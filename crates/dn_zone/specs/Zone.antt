@@ -82,7 +82,7 @@ after_merge zone changes won =
 
 abbrev pub merged : ZoneState → Changes → List Write → ZoneState × Answer
 merged zone changes won =
-    if nat_lt (change_limit) (zone.table.1 + length won) then (zone, answers.Refused limits.Changes)
+    if nat_lt change_limit (zone.table.1 + length won) then (zone, answers.Refused limits.Changes)
     else (after_merge zone changes won, answers.Merged (length won))
 
 -- Where changes are missing before these, nothing is taken. Else the newer of the units are, whatever the order in which
@@ -116,7 +116,7 @@ swept_zone zone writes pass = record zone { table = with_writes writes zone.tabl
 -- a step's writes are taken, unless the change count would pass 2^63
 abbrev pub swept_step : ZoneState → List Write → Option Pass → Answer → ZoneState × Answer
 swept_step zone writes pass answer =
-    if nat_lt (change_limit) (zone.table.1 + length writes) then (zone, answers.Refused limits.Changes) else (swept_zone zone writes pass, answer)
+    if nat_lt change_limit (zone.table.1 + length writes) then (zone, answers.Refused limits.Changes) else (swept_zone zone writes pass, answer)
 
 abbrev pub finished : ZoneState → Pass → List Write → Answer
 finished zone pass writes =

@@ -10,7 +10,7 @@ ghost use Rattle.dn_zone.specs.Settings.{property};
 use crate::settings::property;
 use dn_io::{List, OutOfMemory};
 use dn_name::Name;
-use dn_property::Property;
+use dn_property::{Property, ids};
 use dn_rdata::{NS, Record, SOA, push_wire};
 use std::alloc::Global;
 
@@ -37,12 +37,12 @@ pub fn first_properties(alloc: Global) -> Result<List<Property>, OutOfMemory>
     ensures { IfOk result (λ list. list ≡ first_properties) }
 {
     let mut list = List::new(alloc);
-    push_property(alloc, &mut list, 0x01, &[1, 0, 0, 0])?;
-    push_property(alloc, &mut list, 0x02, &[1])?;
-    push_property(alloc, &mut list, 0x10, &[168, 0, 0, 0])?;
-    push_property(alloc, &mut list, 0x12, &[0, 0, 0, 0])?;
-    push_property(alloc, &mut list, 0x20, &[168, 0, 0, 0])?;
-    push_property(alloc, &mut list, 0x40, &[0, 0, 0, 0])?;
+    push_property(alloc, &mut list, ids::ZONE_TYPE, &[1, 0, 0, 0])?;
+    push_property(alloc, &mut list, ids::ALLOW_UPDATE, &[1])?;
+    push_property(alloc, &mut list, ids::NOREFRESH_INTERVAL, &[168, 0, 0, 0])?;
+    push_property(alloc, &mut list, ids::AGING_ENABLED_TIME, &[0, 0, 0, 0])?;
+    push_property(alloc, &mut list, ids::REFRESH_INTERVAL, &[168, 0, 0, 0])?;
+    push_property(alloc, &mut list, ids::AGING_STATE, &[0, 0, 0, 0])?;
     Ok(list)
 }
 

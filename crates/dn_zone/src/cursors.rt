@@ -33,7 +33,6 @@ impl Cursors {
     }
 
     /// The cursor of a supplier, 0 where there is none.
-    #[tactic(auto, unfolding(crate::specs::Merge::cursor_of))]
     pub fn of(&self, supplier: ReplicaId) -> u64
         ensures { result ≡ cursor_of supplier self.now }
     {
@@ -54,6 +53,10 @@ impl Cursors {
         ensures { IfOk result (λ moved. moved ≡ with_cursor supplier seen self.now) }
     {
         let mut moved = self.copy(alloc)?;
+        // A cursor that stays is left out of the map if it isn't there, so that the state stays too.
+        if self.of(supplier) == seen {
+            return Ok(moved);
+        }
         moved.map.insert(supplier, seen)?;
         Ok(moved)
     }

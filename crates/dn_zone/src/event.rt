@@ -3,15 +3,18 @@ use dn_link::Changes;
 use dn_name::Name;
 use dn_update::Limit;
 
+/// The longest interval of aging that a command sets, in hours: ten years.
+pub const INTERVAL_LIMIT: u32 = 87_600;
+
 /// A command of administration.
 #[derive(Drop)]
 pub enum AdminCmd {
     /// Records age from now on, and none is removed for the refresh interval.
     AgingOn,
     AgingOff,
-    /// Sets the interval without refresh, in hours, at most 87,600.
+    /// Sets the interval without refresh, in hours, at most `INTERVAL_LIMIT`.
     NoRefresh(u32),
-    /// Sets the interval in which a record may be refreshed, in hours, at most 87,600.
+    /// Sets the interval in which a record may be refreshed, in hours, at most `INTERVAL_LIMIT`.
     Refresh(u32),
     /// Adds a record to the node of a name.
     Add {

@@ -15,6 +15,6 @@ mod zone;
 
 pub use changes::changes_of;
 pub use cursors::Cursors;
-pub use event::{AdminCmd, AdminDone, Answer, Event};
-pub use laws::zones_stay_valid;
+pub use event::{AdminCmd, AdminDone, Answer, Event, INTERVAL_LIMIT};
+pub use laws::{cursors_move_apart, events_take_their_writes, zones_stay_valid};
 pub use zone::{Prepared, Zone};

@@ -1,12 +1,12 @@
-ghost use Rattle.std.specs.Prelude.{◌≡◌, ◌+◌, ◌≤◌, length, IfOk, IsTrue};
+ghost use Rattle.std.specs.Prelude.{◌≡◌, ◌+◌, ◌≤◌, [], length, IfOk, IsTrue};
 ghost use Rattle.std.specs.List.{AllByRecursion};
 ghost use Rattle.dn_store.specs.Table.{AreWritten, IsNotWritten, KeysDiffer, change_limit, unit_at};
 ghost use Rattle.dn_store.specs.declared.unit.UnitKey.{UnitKey};
 ghost use Rattle.dn_store.specs.Value.{fits};
 ghost use Rattle.dn_zone.specs.Joins.{JoinsChanges};
-ghost use Rattle.dn_zone.specs.Merge.{pull_of, winners, wins};
+ghost use Rattle.dn_zone.specs.Merge.{cursor_of, pull_of, winners, wins};
 ghost use Rattle.dn_zone.specs.Zone.{after_merge, merge_step};
-ghost use Rattle.dn_zone.specs.Zone.Preparing.{Prepares};
+ghost use Rattle.dn_zone.specs.Zone.Preparing.{IsSame, Prepares};
 
 use crate::event::Answer;
 use crate::zone::{Prepared, Zone};
@@ -68,7 +68,8 @@ impl Zone {
         })
     }
 
-    /// Takes what another replica sent: nothing where changes are missing before these, else the newer of the units.
+    /// Takes what another replica sent: nothing where changes are missing before these, else the newer of the units. The zone
+    /// stays the same where none is newer and the cursor stays.
     ///
     /// # Errors
     /// `OutOfMemory`.
@@ -77,6 +78,8 @@ impl Zone {
         ensures step { IfOk result (λ made. Prepares made self.now (merge_step self.now changes.now)) }
         // Under each key stands the join of what stood there and of what came (`greater` of dn_stamp).
         ensures joins { IfOk result (λ made. JoinsChanges made self.now changes.now) }
+        // Where no unit wins and the cursor stays, no state is made.
+        ensures kept { winners self.now.table.0 changes.now.units ≡ [] → changes.now.to ≤ cursor_of changes.now.supplier self.now.cursors → IfOk result IsSame }
     {
         let cursor = self.cursors.of(changes.supplier);
         if cursor < changes.from {
@@ -88,6 +91,9 @@ impl Zone {
         let won = self.winners(alloc, changes.units.as_slice())?;
         if self.table.is_full_for(won.len()) {
             return Ok(Prepared::Same(Answer::Refused(Limit::Changes)));
+        }
+        if won.is_empty() && changes.to <= cursor {
+            return Ok(Prepared::Same(Answer::Merged { won: 0 }));
         }
         let count = won.len() as u32;
         let after = self.after_merge(alloc, changes, &won)?;

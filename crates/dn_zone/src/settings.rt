@@ -4,7 +4,7 @@ ghost use Rattle.dn_zone.specs.Settings.{all_set, is_set, property_id, wanted_nu
 
 use crate::event::AdminCmd;
 use dn_io::{Duplicate, List, OutOfMemory};
-use dn_property::{Property, ZoneRules, rules_of};
+use dn_property::{Property, ZoneRules, ids, rules_of};
 use std::alloc::Global;
 
 // What a command sets in a zone's property list.
@@ -26,10 +26,10 @@ impl Setting {
         ensures { result ≡ property_id self.now }
     {
         match self {
-            Setting::NoRefresh(_) => 0x10,
-            Setting::Available(_) => 0x12,
-            Setting::Refresh(_) => 0x20,
-            Setting::Aging(_) => 0x40,
+            Setting::NoRefresh(_) => ids::NOREFRESH_INTERVAL,
+            Setting::Available(_) => ids::AGING_ENABLED_TIME,
+            Setting::Refresh(_) => ids::REFRESH_INTERVAL,
+            Setting::Aging(_) => ids::AGING_STATE,
         }
     }
 
