@@ -14,7 +14,6 @@ use Rattle.dn_message.specs.Kind.{kind_of}
 use Rattle.dn_message.specs.QueryOf.{query_of}
 use Rattle.dn_message.proofs.CallerLemmas.{is_query}
 use Rattle.dn_store.proofs.CallerLemmas.{all_filter}
-use Rattle.dn_answer.specs.declared.datagrams.Received.{Received}
 use Rattle.dn_answer.specs.declared.datagrams.Received.TheVariants.{Answer, Code}
 use Rattle.dn_answer.specs.Datagram.{IsRepliable, is_over, is_refusal, is_refused, nearer, nearest, query_received, received, received_as, zone_over}
 use Rattle.dn_answer.specs.View.{IsServable, ZoneSeen}

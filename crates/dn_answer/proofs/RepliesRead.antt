@@ -1,5 +1,5 @@
 -- What is replied to a datagram is read by the grammar as what there is to say.
-use Rattle.std.proofs.Common.{◌≡◌, ℕ, Bool, true, false, if◌then◌else◌, List, refl}
+use Rattle.std.proofs.Common.{ℕ, Bool, true, false, if◌then◌else◌, List, refl}
 use Rattle.dn_name.specs.Name.{IsName}
 use Rattle.dn_message.specs.declared.query.Query.{Query}
 use Rattle.dn_message.specs.declared.rcode.Rcode.TheVariants.{NotImp, Refused}

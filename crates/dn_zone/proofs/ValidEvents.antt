@@ -18,7 +18,7 @@ use Rattle.dn_store.specs.declared.unit.Unit as units
 use Rattle.dn_store.specs.declared.unit.Write.{Write}
 use Rattle.dn_store.specs.Contents.{props_number, properties_of}
 use Rattle.dn_store.specs.Table.{TableState, change_limit, write_of, run_after}
-use Rattle.dn_store.specs.Valid.{IsValidTable, IsValidUnit, IsValidWrite}
+use Rattle.dn_store.specs.Valid.{IsValidTable, IsValidWrite}
 use Rattle.dn_store.specs.Value.{fits}
 use Rattle.dn_store.proofs.CallerLemmas.{all_filter, all_then, run_differ, run_order, run_short, run_valid, table_taken, valid_taken}
 use Rattle.dn_update.specs.Writes.{Wanted, with_writes, written}

@@ -1,14 +1,13 @@
 -- The table behind an event is the table before with the event's writes taken.
-use Rattle.std.proofs.Common.{◌≡◌, ℕ, ◌+◌, Bool, true, false, cond, List, [], ◌∷◌, length, nat_lt, Option, None, Some, refl, sym, ap, ◌∙◌, arith}
+use Rattle.std.proofs.Common.{◌≡◌, ℕ, ◌+◌, Bool, true, false, cond, List, [], ◌∷◌, length, nat_lt, Option, None, Some, refl, ap, arith}
 use Rattle.std.specs.List.{list_all}
 use Rattle.dn_io.specs.Moments.{hour_of, seconds_of}
 use Rattle.dn_name.specs.Name.{is_under}
 use Rattle.dn_property.specs.declared.property.Property.{Property}
 use Rattle.dn_property.specs.Rules.{rules_of}
 use Rattle.dn_rdata.specs.Record.{made}
-use Rattle.dn_store.specs.declared.unit.Unit as units
 use Rattle.dn_store.specs.declared.unit.Write.{Write}
-use Rattle.dn_store.specs.Contents.{props_number, properties_of}
+use Rattle.dn_store.specs.Contents.{properties_of}
 use Rattle.dn_store.specs.Table.{TableState, change_limit}
 use Rattle.dn_store.specs.Value.{fits}
 use Rattle.dn_update.specs.Writes.{Outcome, Wanted, stamped, when_stamped, with_writes, written}
