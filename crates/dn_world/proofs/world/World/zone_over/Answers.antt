@@ -2,6 +2,7 @@ use Rattle.std.proofs.Common.{◌≡◌, ℕ, List, ap, ap₂, drop, sym, ◌∙
 use Rattle.dn_answer.specs.Datagram.{nearer}
 use Rattle.dn_zone.specs.State.{ZoneState}
 use Rattle.dn_world.specs.Datagram.{zones_of}
+use Rattle.dn_world.specs.State.{WorldState}
 use Rattle.dn_world.proofs.ViewLemmas.{over, over_end, over_more}
 use Rattle.dn_world.proofs.world.World.zone_over.Goals as goal
 
@@ -23,3 +24,4 @@ returns c =
     c.loop-at.invariant.found
     ∙ (let none : c.loop-at.at ≡ 0 = omega (arith, c.loop-at-test.false) in
     ap₂ (λ (n : ℕ) (list : List ZoneState). over c.args.id c.args.name.now (drop n list)) none c.as_slice-zones.ensures)
+    ∙ ap (λ (world : WorldState). over c.args.id c.args.name.now world.zones) c.self.view_is
