@@ -1,4 +1,4 @@
-use crate::fixtures::{check_bytes, list_of};
+use crate::fixtures::{check_bytes, fails_at, list_of};
 use dn_io::{
     Failed, Line, LineBuf, LineError, List, MemSink, MemSource, Sink, Source, StdSink, StdSource,
     SureSink, read_line, write_all,
@@ -6,13 +6,6 @@ use dn_io::{
 use std::alloc::Global;
 use std::io::{self, ErrorKind, Read, Write};
 use std::process::Abort;
-
-/// The list of one call's number.
-fn fails_at(rt: &impl Abort, alloc: Global, call: u64) -> List<u64> {
-    let mut fails = List::new(alloc);
-    fails.push(call).expect(rt, "memory");
-    fails
-}
 
 /// What four reads of a line answer: a text with a bar behind it, `.` at the end, `r` or `t` for an error.
 fn shown<S: Source>(rt: &impl Abort, alloc: Global, source: &mut S) -> List<u8> {
