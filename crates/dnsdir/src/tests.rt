@@ -1,30 +1,14 @@
 use crate::batch::batch;
 use crate::command::{Command, command_of};
-use dn_io::{Addr, List, MemSink, MemSource, Source, Status, SureSource};
-use std::alloc::Global;
+use dn_io::{Addr, List, MemSink, Status, SureSource};
 use std::process::Abort;
 
-const SCRIPT: &str = "\
+const SCRIPT: &[u8] = b"\
 replica a 000102030405060708090a0b0c0d0e0f ns1.x
 at 36000000000000
 zone create a x admin.x
 admin a x add h.x 3600 A 10.0.0.1
 ";
-
-fn list_of(rt: &impl Abort, alloc: Global, bytes: &[u8]) -> List<u8> {
-    let mut list = List::new(alloc);
-    list.extend(bytes).expect(rt, "memory");
-    list
-}
-
-// The numbers of the calls that fail: the first, or none.
-fn failing(rt: &impl Abort, alloc: Global, fails: bool) -> List<u64> {
-    let mut calls = List::new(alloc);
-    if fails {
-        calls.push(0).expect(rt, "memory");
-    }
-    calls
-}
 
 // What the words of a command line ask for.
 fn check_command(rt: &impl Abort, words: &[&str], want: Command) {
@@ -107,119 +91,13 @@ fn no_addresses_to_serve_at(rt: HostRuntime) {
     }
 }
 
-// The status of a call with these words, and what it has written where the first write may fail.
-fn check_batch<S: Source>(
-    rt: &impl Abort,
-    alloc: Global,
-    words: &[&str],
-    source: &mut S,
-    no_write: bool,
-    want: Status,
-    output: &str,
-) {
-    let mut sink = MemSink::of(failing(rt, alloc, no_write));
-    let status = batch(alloc, words, source, &mut sink);
-    assert_eq!(rt; status, want);
-    assert_eq!(rt; sink.written(), output.as_bytes());
-}
-
-// An input, whether its first read fails, whether the first write fails, the status and what is written.
-fn check_replay(
-    rt: &impl Abort,
-    alloc: Global,
-    input: &str,
-    faults: (bool, bool),
-    want: Status,
-    output: &str,
-) {
-    let (no_read, no_write) = faults;
-    let bytes = list_of(rt, alloc, input.as_bytes());
-    let mut source = MemSource::of(bytes, failing(rt, alloc, no_read));
-    check_batch(rt, alloc, &["replay"], &mut source, no_write, want, output);
-}
-
-#[test]
-fn statuses_of_replays(rt: HostRuntime) {
-    for (input, faults, want, output) in [
-        ("", (false, false), Status::Done, ""),
-        ("nonsense\n", (false, false), Status::BadLine(1), ""),
-        (SCRIPT, (false, false), Status::Done, "ok 1\n"),
-        (SCRIPT, (true, false), Status::ReadFault, ""),
-        (SCRIPT, (false, true), Status::WriteFault, ""),
-    ] {
-        check_replay(&rt, rt.alloc(), input, faults, want, output);
-    }
-}
-
-#[test]
-fn a_source_that_never_fails(rt: HostRuntime) {
-    let alloc = rt.alloc();
-    let mut source = SureSource::of(list_of(&rt, alloc, SCRIPT.as_bytes()));
-    let replay = ["replay"];
-    check_batch(
-        &rt,
-        alloc,
-        &replay,
-        &mut source,
-        false,
-        Status::Done,
-        "ok 1\n",
-    );
-}
-
-#[test]
-fn an_overlong_line(rt: HostRuntime) {
-    let alloc = rt.alloc();
-    let line = List::of(vec![in alloc; b'#'; 200_001].expect(&rt, "memory"));
-    let mut source = MemSource::of(line, List::new(alloc));
-    let replay = ["replay"];
-    check_batch(&rt, alloc, &replay, &mut source, false, Status::TooLong, "");
-}
-
 #[test]
 fn other_words_are_refused(rt: HostRuntime) {
     let alloc = rt.alloc();
-    let mut source = SureSource::of(list_of(&rt, alloc, SCRIPT.as_bytes()));
+    let script = List::from_slice(alloc, SCRIPT).expect(&rt, "memory");
+    let mut source = SureSource::of(script);
+    let mut sink = MemSink::of(List::new(alloc));
     let words = ["replay", "now"];
-    check_batch(&rt, alloc, &words, &mut source, false, Status::Usage, "");
-}
-
-// The lines of an input that are given to a command, and what is written of them.
-fn check_values(rt: &impl Abort, alloc: Global, word: &str, input: &str, output: &str) {
-    let mut source = SureSource::of(list_of(rt, alloc, input.as_bytes()));
-    let words = [word];
-    check_batch(rt, alloc, &words, &mut source, false, Status::Done, output);
-}
-
-#[test]
-fn shown_values(rt: HostRuntime) {
-    for (input, output) in [
-        (
-            "record 0400010005f000000700000000000e1000000000010000000a000001\n",
-            "record A ttl=3600 hour=1 rank=240 flags=0 serial=7 reserved=0 10.0.0.1\n",
-        ),
-        (
-            "record 0500010005f000000700000000000e1000000000010000000a000001\n",
-            "fault LengthDiffers at 0 said 5 found 4\n",
-        ),
-        ("property 0400\n", "fault Short at 2\n"),
-    ] {
-        check_values(&rt, rt.alloc(), "show", input, output);
-    }
-}
-
-#[test]
-fn packed_values(rt: HostRuntime) {
-    for (input, output) in [
-        (
-            "record A ttl=3600 hour=1 rank=240 flags=0 serial=7 reserved=0 10.0.0.1\n",
-            "record 0400010005f000000700000000000e1000000000010000000a000001\n",
-        ),
-        (
-            "property AGING_STATE name_length=4 flag=0 content=01000000 tail=00\n",
-            "property 04000000040000000000000001000000400000000100000000\n",
-        ),
-    ] {
-        check_values(&rt, rt.alloc(), "pack", input, output);
-    }
+    assert_eq!(rt; batch(alloc, &words, &mut source, &mut sink), Status::Usage);
+    assert!(rt; sink.written().is_empty());
 }
