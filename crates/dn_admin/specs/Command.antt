@@ -1,37 +1,55 @@
--- Which words are which command of administration.
-use Rattle.std.specs.Prelude.{ℕ, if◌then◌else◌, List, [], ◌∷◌, codes, Option, None, Some}
+-- Which text is which command of administration.
+use Rattle.std.specs.Prelude.{ℕ, ◌-◌, ◌^◌, if◌then◌else◌, List, [], ◌∷◌, codes, Option, None, Some}
 use Rattle.dn_io.specs.Options.{◌>>=◌}
 use Rattle.dn_rdata.specs.Types.{A}
 use Rattle.dn_zone.specs.declared.event.AdminCmd.{AdminCmd}
 use Rattle.dn_zone.specs.declared.event.AdminCmd.TheVariants.{Add, AgingOn, AgingOff, NoRefresh, Refresh}
 use Rattle.dn_zone.specs.Valid.{interval_limit}
-use Rattle.dn_word.specs.Addresses.{address_of}
+use Rattle.dn_word.specs.Cuts.{cut_last_word, cut_word, trimmed}
 use Rattle.dn_word.specs.Names.{name_word}
 use Rattle.dn_word.specs.Numbers.{number_within}
+use Rattle.dn_word.specs.Words.{is_word, words_of}
+use Rattle.dn_text.specs.ReadData.{rdata_of_text}
 use Rattle.dn_text.specs.Types.{is_type_a}
-use Rattle.dn_word.specs.Words.{is_word}
 
--- the command that adds an address at a name, with this hour as its time stamp
+-- the command that adds an address at a name, by the text of its data, with this hour as its time stamp
 unfoldable pub address_command : List ℕ → List ℕ → List ℕ → ℕ → Option AdminCmd
-address_command name ttl address hour = do
+address_command name ttl text hour = do
   its_name ← name_word name
-  its_ttl ← number_within 4294967295 ttl
-  rdata ← address_of address
+  its_ttl ← number_within (2 ^ 32 - 1) ttl
+  rdata ← rdata_of_text A (trimmed text)
   Some (Add its_name its_ttl A rdata hour)
 
--- `hour H`, or nothing for a record that doesn't age
-unfoldable pub hour_words : List (List ℕ) → Option ℕ
-hour_words [] = Some 0
-hour_words (word ∷ []) = None
-hour_words (word ∷ hour ∷ []) = if is_word word (codes "hour") then number_within 4294967295 hour else None
-hour_words (word ∷ hour ∷ next ∷ rest) = None
+-- What stands before `hour H` at the end of a text, and that hour. Strings end with a quote, so what stands inside of quotes
+-- is never at the end.
+unfoldable pub hour_at_end : List ℕ → Option (List ℕ × ℕ)
+hour_at_end text = do
+  number ← cut_last_word text
+  label ← cut_last_word number.0
+  hour ← if is_word label.1 (codes "hour") then number_within (2 ^ 32 - 1) number.1 else None
+  Some (label.0, hour)
 
--- `add NAME TTL TYPE DATA`, with or without `hour H`
-unfoldable pub add_of : List (List ℕ) → Option AdminCmd
-add_of (name ∷ ttl ∷ rtype ∷ address ∷ rest) = do
-  hour ← if is_type_a rtype then hour_words rest else None
-  address_command name ttl address hour
-add_of words = None
+abbrev pub or_static : List ℕ → Option (List ℕ × ℕ) → List ℕ × ℕ
+or_static text None = (text, 0)
+or_static text (Some found) = found
+
+-- the text of data, and the hour behind it, which is 0 for a record that doesn't age
+unfoldable pub dated : List ℕ → List ℕ × ℕ
+dated text = or_static text (hour_at_end text)
+
+-- a name, a time to live, a type, and what stands behind them
+unfoldable pub add_words : List ℕ → Option (List ℕ × List ℕ × List ℕ × List ℕ)
+add_words text = do
+  name ← cut_word text
+  ttl ← cut_word name.1
+  rtype ← cut_word ttl.1
+  Some (name.0, ttl.0, rtype.0, rtype.1)
+
+-- `NAME TTL TYPE DATA`, with or without `hour H`, behind `add`; data of a type other than A aren't added yet
+unfoldable pub add_of : List ℕ → Option AdminCmd
+add_of text = do
+  found ← add_words text
+  if is_type_a found.2 then address_command found.0 found.1 (dated found.3).0 (dated found.3).1 else None
 
 -- `on` or `off`, behind `aging`
 unfoldable pub aging_of : List (List ℕ) → Option AdminCmd
@@ -55,9 +73,13 @@ interval_command verb words = do
   hours ← interval_of words
   interval_named verb hours
 
--- a command of administration
-unfoldable pub command_of : List (List ℕ) → Option AdminCmd
-command_of [] = None
-command_of (verb ∷ words) =
-    if is_word verb (codes "add") then add_of words
-    else (if is_word verb (codes "aging") then aging_of words else interval_command verb words)
+abbrev pub command_with : List ℕ → List ℕ → Option AdminCmd
+command_with verb text =
+    if is_word verb (codes "add") then add_of text
+    else (if is_word verb (codes "aging") then aging_of (words_of text) else interval_command verb (words_of text))
+
+-- the command of administration that a text is
+unfoldable pub command_of : List ℕ → Option AdminCmd
+command_of text = do
+  verb ← cut_word text
+  command_with verb.0 verb.1

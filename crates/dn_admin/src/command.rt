@@ -1,24 +1,23 @@
-ghost use Rattle.std.specs.Prelude.{◌≡◌, map};
-ghost use Rattle.dn_admin.specs.Command.{add_of, address_command, aging_of, command_of, hour_words, interval_command, interval_of};
+ghost use Rattle.std.specs.Prelude.{◌≡◌, None, Some, MatchOption, map};
+ghost use Rattle.dn_admin.specs.Command.{add_of, add_words, address_command, aging_of, command_of, dated, hour_at_end, interval_command, interval_of};
 ghost use Rattle.dn_word.specs.Reading.{Reads};
 
-use dn_io::List;
 use dn_rdata::A;
-use dn_text::is_type_a;
-use dn_word::{TextError, ip_of, is_word, name_of, number_of};
+use dn_text::{is_type_a, read_rdata};
+use dn_word::{TextError, cut_last_word, cut_word, is_word, name_of, number_of, trimmed, words_of};
 use dn_zone::{AdminCmd, INTERVAL_LIMIT};
 use std::alloc::Global;
 
-// The command that adds an address at a name, with an hour as its time stamp.
+// The command that adds an address at a name, by the text of its data, with an hour as its time stamp.
 #[tactic(auto, unfolding(crate::specs::Command::address_command))]
 fn address_command(
     alloc: Global,
     name: &[u8],
     ttl: &[u8],
-    address: &[u8],
+    text: &[u8],
     hour: u32,
 ) -> Result<AdminCmd, TextError>
-    ensures { Reads result (address_command name.now ttl.now address.now hour) }
+    ensures { Reads result (address_command name.now ttl.now text.now hour) }
 {
     let Some(name) = name_of(name) else {
         return Err(TextError::BadText);
@@ -26,45 +25,67 @@ fn address_command(
     let Some(ttl) = number_of(u32::MAX, ttl) else {
         return Err(TextError::BadText);
     };
-    let Some(ip) = ip_of(address) else {
-        return Err(TextError::BadText);
-    };
+    let rdata = read_rdata(alloc, A, trimmed(text))?;
     Ok(AdminCmd::Add {
         name,
         ttl,
         rtype: A,
-        rdata: List::from_slice(alloc, &ip)?,
+        rdata,
         hour,
     })
 }
 
-// The hour behind `hour`, 0 where nothing is written.
-#[tactic(auto, unfolding(crate::specs::Command::hour_words))]
-fn hour_of(words: &[&[u8]]) -> Option<u32>
-    ensures { result ≡ hour_words (map (λ word. word.now) words.now) }
+// What stands before `hour H` at the end of a text, and that hour.
+#[tactic(auto, unfolding(crate::specs::Command::hour_at_end))]
+fn hour_at_end(text: &[u8]) -> Option<(&[u8], u32)>
+    ensures { let there = hour_at_end text.now in
+        MatchOption result (there ≡ None) (λ found. there ≡ Some (found.0.now, found.1)) }
 {
-    match words {
-        [] => Some(0),
-        [word, hour] if is_word(word, b"hour") => number_of(u32::MAX, hour),
-        _ => None,
+    let (rest, number) = cut_last_word(text)?;
+    let (data, label) = cut_last_word(rest)?;
+    if !is_word(label, b"hour") {
+        return None;
+    }
+    let hour = number_of(u32::MAX, number)?;
+    Some((data, hour))
+}
+
+// The text of data, and the hour behind it.
+#[tactic(auto, unfolding(crate::specs::Command::dated))]
+fn dated(text: &[u8]) -> (&[u8], u32)
+    ensures { (result.0.now, result.1) ≡ dated text.now }
+{
+    match hour_at_end(text) {
+        Some(found) => found,
+        None => (text, 0),
     }
 }
 
-// `add NAME TTL TYPE DATA`, behind `add`.
-#[tactic(auto, unfolding(crate::specs::Command::add_of))]
-fn add_of(alloc: Global, words: &[&[u8]]) -> Result<AdminCmd, TextError>
-    ensures { Reads result (add_of (map (λ word. word.now) words.now)) }
+// A name, a time to live, a type, and what stands behind them.
+#[tactic(auto, unfolding(crate::specs::Command::add_words))]
+fn add_words(text: &[u8]) -> Option<(&[u8], &[u8], &[u8], &[u8])>
+    ensures { let there = add_words text.now in
+        MatchOption result (there ≡ None) (λ found. there ≡ Some (found.0.now, found.1.now, found.2.now, found.3.now)) }
 {
-    let [name, ttl, rtype, address, rest @ ..] = words else {
+    let (name, rest) = cut_word(text)?;
+    let (ttl, rest) = cut_word(rest)?;
+    let (rtype, rest) = cut_word(rest)?;
+    Some((name, ttl, rtype, rest))
+}
+
+// `NAME TTL TYPE DATA`, with or without `hour H`, behind `add`.
+#[tactic(auto, unfolding(crate::specs::Command::add_of))]
+fn add_of(alloc: Global, text: &[u8]) -> Result<AdminCmd, TextError>
+    ensures { Reads result (add_of text.now) }
+{
+    let Some((name, ttl, rtype, rest)) = add_words(text) else {
         return Err(TextError::BadText);
     };
     if !is_type_a(rtype) {
         return Err(TextError::BadText);
     }
-    let Some(hour) = hour_of(rest) else {
-        return Err(TextError::BadText);
-    };
-    address_command(alloc, name, ttl, address, hour)
+    let (data, hour) = dated(rest);
+    address_command(alloc, name, ttl, data, hour)
 }
 
 // `on` or `off`, behind `aging`.
@@ -105,23 +126,25 @@ fn interval_command(verb: &[u8], words: &[&[u8]]) -> Option<AdminCmd>
     }
 }
 
-/// The command of administration that the words are: `add NAME TTL TYPE DATA` with or without `hour H`, `aging on`,
-/// `aging off`, `norefresh H` or `refresh H`.
+/// The command of administration that a text is: `add NAME TTL TYPE DATA` with or without `hour H`, `aging on`, `aging off`,
+/// `norefresh H` or `refresh H`, with any blanks between words. The data stand as in a row's line.
 ///
 /// # Errors
-/// `BadText` exactly where they are none, `OutOfMemory`.
+/// `BadText` exactly where it is none, `OutOfMemory`.
 #[tactic(auto, unfolding(crate::specs::Command::command_of))]
-pub fn command_of(alloc: Global, words: &[&[u8]]) -> Result<AdminCmd, TextError>
-    ensures { Reads result (command_of (map (λ word. word.now) words.now)) }
+pub fn command_of(alloc: Global, text: &[u8]) -> Result<AdminCmd, TextError>
+    ensures { Reads result (command_of text.now) }
 {
-    let [verb, rest @ ..] = words else {
+    let Some((verb, rest)) = cut_word(text) else {
         return Err(TextError::BadText);
     };
     if is_word(verb, b"add") {
-        add_of(alloc, rest)
-    } else if is_word(verb, b"aging") {
-        aging_of(rest).ok_or(TextError::BadText)
+        return add_of(alloc, rest);
+    }
+    let words = words_of(alloc, rest)?;
+    if is_word(verb, b"aging") {
+        aging_of(&words).ok_or(TextError::BadText)
     } else {
-        interval_command(verb, rest).ok_or(TextError::BadText)
+        interval_command(verb, &words).ok_or(TextError::BadText)
     }
 }

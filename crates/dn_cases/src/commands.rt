@@ -31,10 +31,9 @@ fn push_command(alloc: Global, cmd: &AdminCmd, out: &mut List<u8>) -> Result<(),
     }
 }
 
-// The command that the words of a line are.
+// The command that a line is.
 fn command(alloc: Global, text: &[u8], out: &mut List<u8>) -> Result<(), OutOfMemory> {
-    let words = words_of(alloc, text)?;
-    match command_of(alloc, words.as_slice()) {
+    match command_of(alloc, text) {
         Ok(cmd) => push_command(alloc, &cmd, out),
         Err(TextError::BadText) => out.extend(b"BadText"),
         Err(TextError::OutOfMemory) => Err(OutOfMemory),

@@ -85,7 +85,7 @@ text_by false script found after is = read_runs script found after is
 pub text_runs : (script : Script) (text : List ℕ) (after : Script × List ℕ) → step_text script text ≡ Some after
     → InWorld (run_from (script.world, Made) (text_events script text)).0 after
 unfolding step_text text_events
-text_runs script text after is = text_by (does_nothing text) script (line_of (words_of text)) after is
+text_runs script text after is = text_by (does_nothing text) script (line_of text (words_of text)) after is
 
 -- the world before the first line is valid
 pub opening_valid : IsValidWorld opening.world

@@ -20,7 +20,7 @@ use Rattle.dn_world.specs.Runs.{AreProper}
 use Rattle.dn_script.specs.declared.line.ScriptLine.{ScriptLine}
 use Rattle.dn_script.specs.declared.line.ScriptLine.TheVariants as lines
 use Rattle.dn_script.specs.declared.script.Script.{Script}
-use Rattle.dn_script.specs.Line.{admin_line, ask_line, at_line, create_line, deliver_line, event_line, join_line, line_of, pass_line, pull_line, replica_line, udp_line, zone_line}
+use Rattle.dn_script.specs.Line.{admin_line, admin_words, ask_line, at_line, create_line, deliver_line, event_line, join_line, line_of, pass_line, pull_line, replica_line, udp_line, zone_line}
 use Rattle.dn_script.specs.Play.{events_of, events_or_none, is_new_name, line_events, replica_number, text_events}
 use Rattle.dn_lines.specs.Words.{does_nothing}
 use Rattle.dn_script.proofs.PassRuns.{pass_proper}
@@ -112,13 +112,11 @@ proper_deliver [] = nothing
 proper_deliver (number ∷ next ∷ rest) = nothing
 proper_deliver (number ∷ []) = bound IsProperLine (number_within 4294967295 number) _ (λ packet there line is. given_is IsProperLine (lines.Deliver packet) line tt is)
 
-proper_admin : (words : List (List ℕ)) → Proper (admin_line words)
+proper_admin : (text : List ℕ) → Proper (admin_line text)
 unfolding admin_line
-proper_admin [] = nothing
-proper_admin (replica ∷ []) = nothing
-proper_admin (replica ∷ apex ∷ command) =
-    bound IsProperLine (name_word apex) _ (λ its_apex named. bound IsProperLine (command_of command) _
-    (λ cmd commanded line is. given_is IsProperLine (lines.Admin replica its_apex cmd) line (name_is_name apex its_apex named, proper_command command cmd commanded) is))
+proper_admin text =
+    bound IsProperLine (admin_words text) _ (λ found there. bound IsProperLine (name_word found.1) _ (λ its_apex named. bound IsProperLine (command_of found.2) _
+    (λ cmd commanded line is. given_is IsProperLine (lines.Admin found.0 its_apex cmd) line (name_is_name found.1 its_apex named, proper_command found.2 cmd commanded) is)))
 
 proper_ask : (words : List (List ℕ)) → Proper (ask_line words)
 unfolding ask_line
@@ -145,14 +143,14 @@ proper_event verb words =
     (chosen IsProperLine (is_word verb (codes "pass")) (pass_line words) _ (proper_pass words)
     (chosen IsProperLine (is_word verb (codes "udp")) (udp_line words) None (proper_udp words) nothing)))
 
-proper_line : (words : List (List ℕ)) → Proper (line_of words)
+proper_line : (text : List ℕ) (words : List (List ℕ)) → Proper (line_of text words)
 unfolding line_of
-proper_line [] = nothing
-proper_line (verb ∷ words) =
+proper_line text [] = nothing
+proper_line text (verb ∷ words) =
     chosen IsProperLine (is_word verb (codes "replica")) (replica_line words) _ (proper_replica words)
     (chosen IsProperLine (is_word verb (codes "zone")) (zone_line words) _ (proper_zone words)
     (chosen IsProperLine (is_word verb (codes "at")) (at_line words) _ (proper_at words)
-    (chosen IsProperLine (is_word verb (codes "admin")) (admin_line words) _ (proper_admin words)
+    (chosen IsProperLine (is_word verb (codes "admin")) (admin_line text) _ (proper_admin text)
     (chosen IsProperLine (is_word verb (codes "ask")) (ask_line words) _ (proper_ask words) (proper_event verb words)))))
 
 -- ---- events
@@ -194,4 +192,4 @@ text_by false events proper = proper
 pub text_proper : (script : Script) (text : List ℕ) → AreProper (text_events script text)
 unfolding text_events
 text_proper script text =
-    text_by (does_nothing text) (line_events script (line_of (words_of text))) (read_proper script (line_of (words_of text)) (proper_line (words_of text)))
+    text_by (does_nothing text) (line_events script (line_of text (words_of text))) (read_proper script (line_of text (words_of text)) (proper_line text (words_of text)))

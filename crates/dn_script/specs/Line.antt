@@ -2,6 +2,7 @@
 use Rattle.std.specs.Prelude.{ℕ, if◌then◌else◌, List, [], ◌∷◌, codes, Option, None, Some}
 use Rattle.dn_io.specs.Options.{◌>>=◌}
 use Rattle.dn_rdata.specs.Types.{A}
+use Rattle.dn_word.specs.Cuts.{cut_word}
 use Rattle.dn_word.specs.Hex.{bytes_of_hex}
 use Rattle.dn_word.specs.Moments.{moment_of}
 use Rattle.dn_word.specs.Names.{name_word}
@@ -50,13 +51,21 @@ at_line (ticks ∷ []) = do
   Some (lines.At moment)
 at_line words = None
 
--- `admin R Z COMMAND`
-unfoldable pub admin_line : List (List ℕ) → Option ScriptLine
-admin_line (replica ∷ apex ∷ command) = do
-  its_apex ← name_word apex
-  cmd ← command_of command
-  Some (lines.Admin replica its_apex cmd)
-admin_line words = None
+-- the two words behind the first one, and what stands behind them
+unfoldable pub admin_words : List ℕ → Option (List ℕ × List ℕ × List ℕ)
+admin_words text = do
+  verb ← cut_word text
+  replica ← cut_word verb.1
+  apex ← cut_word replica.1
+  Some (replica.0, apex.0, apex.1)
+
+-- `admin R Z COMMAND`, where the command is a text, as blanks in quotes belong to its data
+unfoldable pub admin_line : List ℕ → Option ScriptLine
+admin_line text = do
+  found ← admin_words text
+  its_apex ← name_word found.1
+  cmd ← command_of found.2
+  Some (lines.Admin found.0 its_apex cmd)
 
 -- `ask R NAME TYPE`; a question for a type other than A isn't a line yet
 unfoldable pub ask_line : List (List ℕ) → Option ScriptLine
@@ -101,12 +110,12 @@ event_line verb words =
     else (if is_word verb (codes "pass") then pass_line words
     else (if is_word verb (codes "udp") then udp_line words else None)))
 
--- a line of a script, by its words
-unfoldable pub line_of : List (List ℕ) → Option ScriptLine
-line_of [] = None
-line_of (verb ∷ words) =
+-- a line of a script, by its text and its words
+unfoldable pub line_of : List ℕ → List (List ℕ) → Option ScriptLine
+line_of text [] = None
+line_of text (verb ∷ words) =
     if is_word verb (codes "replica") then replica_line words
     else (if is_word verb (codes "zone") then zone_line words
     else (if is_word verb (codes "at") then at_line words
-    else (if is_word verb (codes "admin") then admin_line words
+    else (if is_word verb (codes "admin") then admin_line text
     else (if is_word verb (codes "ask") then ask_line words else event_line verb words))))

@@ -139,7 +139,7 @@ run_line script line = do
 -- The step of a script by the text of a line: none where the line isn't valid.
 unfoldable pub step_text : Script → List ℕ → Step
 step_text script text =
-    if does_nothing text then Some (script, []) else line_of (words_of text) >>= run_line script
+    if does_nothing text then Some (script, []) else line_of text (words_of text) >>= run_line script
 
 abbrev pub events_or_none : Option (List WorldEvent) → List WorldEvent
 events_or_none None = []
@@ -151,7 +151,7 @@ line_events script (Some line) = events_or_none (events_of script line)
 
 -- the events of a line by its text
 unfoldable pub text_events : Script → List ℕ → List WorldEvent
-text_events script text = if does_nothing text then [] else line_events script (line_of (words_of text))
+text_events script text = if does_nothing text then [] else line_events script (line_of text (words_of text))
 
 -- What a script does: the events of its valid lines, what it prints, the world behind them, and how it ends.
 pub record Played : Type 0 where

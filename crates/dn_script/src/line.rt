@@ -1,5 +1,5 @@
-ghost use Rattle.std.specs.Prelude.{◌≡◌, map};
-ghost use Rattle.dn_script.specs.Line.{admin_line, ask_line, at_line, create_line, deliver_line, event_line, join_line, line_of, pass_line, pull_line, replica_line, udp_line, zone_line};
+ghost use Rattle.std.specs.Prelude.{◌≡◌, None, Some, MatchOption, map};
+ghost use Rattle.dn_script.specs.Line.{admin_line, admin_words, ask_line, at_line, create_line, deliver_line, event_line, join_line, line_of, pass_line, pull_line, replica_line, udp_line, zone_line};
 ghost use Rattle.dn_word.specs.Reading.{Reads};
 
 use dn_admin::command_of;
@@ -9,7 +9,8 @@ use dn_rdata::A;
 use dn_stamp::ReplicaId;
 use dn_text::is_type_a;
 use dn_word::{
-    TextError, bytes_of_hex, id_of, is_replica_name, is_word, moment_of, name_of, number_of,
+    TextError, bytes_of_hex, cut_word, id_of, is_replica_name, is_word, moment_of, name_of,
+    number_of,
 };
 use dn_zone::AdminCmd;
 use std::alloc::Global;
@@ -153,11 +154,24 @@ fn at_line(words: &[&[u8]]) -> Option<ScriptLine>
     Some(ScriptLine::At { moment })
 }
 
-#[tactic(auto, unfolding(crate::specs::Line::admin_line))]
-fn admin_line(alloc: Global, words: &[&[u8]]) -> Result<ScriptLine, TextError>
-    ensures { Reads result (admin_line (map (λ word. word.now) words.now)) }
+// The two words behind the first one, and what stands behind them.
+#[tactic(auto, unfolding(crate::specs::Line::admin_words))]
+fn admin_words(text: &[u8]) -> Option<(&[u8], &[u8], &[u8])>
+    ensures { let there = admin_words text.now in
+        MatchOption result (there ≡ None) (λ found. there ≡ Some (found.0.now, found.1.now, found.2.now)) }
 {
-    let [replica, apex, command @ ..] = words else {
+    let (_, rest) = cut_word(text)?;
+    let (replica, rest) = cut_word(rest)?;
+    let (apex, rest) = cut_word(rest)?;
+    Some((replica, apex, rest))
+}
+
+// The command stays a text, as blanks in quotes belong to its data.
+#[tactic(auto, unfolding(crate::specs::Line::admin_line))]
+fn admin_line(alloc: Global, text: &[u8]) -> Result<ScriptLine, TextError>
+    ensures { Reads result (admin_line text.now) }
+{
+    let Some((replica, apex, command)) = admin_words(text) else {
         return Err(TextError::BadText);
     };
     let Some(apex) = name_of(apex) else {
@@ -266,13 +280,13 @@ fn event_line(alloc: Global, verb: &[u8], words: &[&[u8]]) -> Result<ScriptLine,
     }
 }
 
-// The line of a script that the words are.
+// The line of a script that a text with these words is.
 //
 // # Errors
-// `BadText` exactly where they are none, `OutOfMemory`.
+// `BadText` exactly where it is none, `OutOfMemory`.
 #[tactic(auto, unfolding(crate::specs::Line::line_of))]
-pub fn line_of(alloc: Global, words: &[&[u8]]) -> Result<ScriptLine, TextError>
-    ensures { Reads result (line_of (map (λ word. word.now) words.now)) }
+pub fn line_of(alloc: Global, text: &[u8], words: &[&[u8]]) -> Result<ScriptLine, TextError>
+    ensures { Reads result (line_of text.now (map (λ word. word.now) words.now)) }
 {
     let [verb, rest @ ..] = words else {
         return Err(TextError::BadText);
@@ -284,7 +298,7 @@ pub fn line_of(alloc: Global, words: &[&[u8]]) -> Result<ScriptLine, TextError>
     } else if is_word(verb, b"at") {
         at_line(rest).ok_or(TextError::BadText)
     } else if is_word(verb, b"admin") {
-        admin_line(alloc, rest)
+        admin_line(alloc, text)
     } else if is_word(verb, b"ask") {
         ask_line(alloc, rest)
     } else {

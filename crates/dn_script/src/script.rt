@@ -274,7 +274,7 @@ impl Script {
         let Some(words) = work_of(alloc, text)? else {
             return Ok(List::new(alloc));
         };
-        match line_of(alloc, &words) {
+        match line_of(alloc, text, &words) {
             Ok(line) => self.run_line(alloc, line),
             Err(TextError::BadText) => Err(Bad::Line),
             Err(TextError::OutOfMemory) => Err(Bad::Memory),

@@ -1,6 +1,7 @@
 pub mod AddressLemmas
 pub mod AddressesBack
 pub mod CallerLemmas
+pub mod CutLemmas
 pub mod JoinedLemmas
 pub mod NamesBack
 pub mod NumberLemmas

@@ -1,4 +1,5 @@
 pub mod Addresses
+pub mod Cuts
 pub mod Hex
 pub mod Laws
 pub mod Moments

@@ -2,6 +2,7 @@
 #![tactic(auto)]
 
 mod address;
+mod cuts;
 mod error;
 mod hexadecimal;
 mod laws;
@@ -13,6 +14,7 @@ mod threads;
 mod words;
 
 pub use address::{cut, ip_of, push_dotted};
+pub use cuts::{cut_last_word, cut_word, trimmed};
 pub use error::TextError;
 pub use hexadecimal::{bytes_of_hex, hex_line, push_hex};
 pub use laws::{addresses_are_read_back, numbers_are_read_back};

@@ -4,7 +4,7 @@ ghost use Rattle.dn_word.specs.Words.{is_blank, is_word, words_of};
 
 use std::alloc::{AllocError, Global};
 
-fn is_blank(byte: u8) -> bool
+pub(crate) fn is_blank(byte: u8) -> bool
     ensures { result ≡ is_blank byte }
 {
     byte == b' ' || byte == b'\t'
