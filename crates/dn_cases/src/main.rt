@@ -8,6 +8,7 @@ mod counted;
 mod inputs;
 mod names;
 mod orders;
+mod programs;
 mod properties;
 mod queries;
 mod reading;
@@ -55,6 +56,8 @@ fn answer(
         texts::answer(alloc, call, text, out)
     } else if is_word(topic, b"command") {
         commands::answer(alloc, call, text, out)
+    } else if is_word(topic, b"program") {
+        programs::answer(alloc, call, text, out)
     } else if is_word(topic, b"data") {
         types::answer(alloc, call, text, out)
     } else {

@@ -6,8 +6,8 @@ use Rattle.dn_script.specs.Play.{Ended, play}
 use Rattle.dn_lines.specs.Said.{AtEnd}
 use Rattle.dn_lines.specs.Said.{EndedLines, Says}
 use Rattle.dn_lines.specs.Values.{IsPacked, IsShown}
-use Rattle.dnsdir.specs.declared.command.Command.{Command}
-use Rattle.dnsdir.specs.declared.command.Command.TheVariants.{Show, Pack, Replay, Generate, Serve, Usage}
+use Rattle.dn_command.specs.declared.command.Command.{Command}
+use Rattle.dn_command.specs.declared.command.Command.TheVariants.{Show, Pack, Replay, Generate, Serve, Usage}
 
 -- the commands that `batch` does
 abbrev pub is_batch : Command → Bool

@@ -9,9 +9,9 @@ ghost use Rattle.dn_script.specs.Laws.{IsOneRun, PassesAreWhole};
 ghost use Rattle.dn_script.specs.Play.{play};
 ghost use Rattle.dn_lines.specs.ValueLaws.{PackedIsShown, ShownIsPacked};
 ghost use Rattle.dnsdir.specs.Batch.{EndedAs, IsDoneOrWant, IsValid, is_batch};
-ghost use Rattle.dnsdir.specs.Command.{command_in};
+ghost use Rattle.dn_command.specs.Command.{command_in};
 
-use crate::command::{Command, command_of};
+use dn_command::{Command, command_of};
 use dn_io::{Sink, Source, Status};
 use dn_script::{
     a_play_is_one_run, pack, packed_texts_are_one, packed_values_are_shown, replay, show,

@@ -2,10 +2,7 @@
 #![tactic(auto)]
 
 mod batch;
-mod command;
 mod fault;
-#[cfg(test)]
-mod tests;
 
 use batch::batch;
 use dn_io::{Failed, Status, StdSink, StdSource};

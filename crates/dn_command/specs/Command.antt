@@ -6,8 +6,8 @@ use Rattle.dn_io.specs.Options.{◌>>=◌}
 use Rattle.dn_word.specs.Addresses.{address_of}
 use Rattle.dn_word.specs.Words.{is_word}
 use Rattle.dn_word.specs.Numbers.{number_within}
-use Rattle.dnsdir.specs.declared.command.Command.{Command}
-use Rattle.dnsdir.specs.declared.command.Command.TheVariants.{Show, Pack, Replay, Generate, Serve, Usage}
+use Rattle.dn_command.specs.declared.command.Command.{Command}
+use Rattle.dn_command.specs.declared.command.Command.TheVariants.{Show, Pack, Replay, Generate, Serve, Usage}
 
 -- an address and a port joined by a colon
 unfoldable pub addr_of_parts : List (List ℕ) → Option Addr

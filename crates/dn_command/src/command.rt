@@ -1,7 +1,7 @@
 ghost use Rattle.std.specs.Prelude.{◌≡◌, [], ◌∷◌, false, nat_eq, length, map, MatchOption};
 ghost use Rattle.std.specs.List.{slice_split};
 ghost use Rattle.dn_word.specs.Numbers.{number_within};
-ghost use Rattle.dnsdir.specs.Command.{addr_of, command_alone, command_in, generate_command, serve_command};
+ghost use Rattle.dn_command.specs.Command.{addr_of, command_alone, command_in, generate_command, serve_command};
 
 use dn_io::Addr;
 use dn_word::{cut, ip_of, number_within};
