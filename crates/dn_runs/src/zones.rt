@@ -98,11 +98,10 @@ fn act(
     counts(alloc, zone, out)
 }
 
-// The command of these words at hour 1000.
+// The command of this text at hour 1000.
 fn command(alloc: Global, text: &[u8]) -> Option<Event> {
-    let words = words_of(alloc, text).ok()?;
     Some(Event::Admin {
-        cmd: command_of(alloc, words.as_slice()).ok()?,
+        cmd: command_of(alloc, text).ok()?,
         moment: moment_of(b"36000000000000")?,
     })
 }
